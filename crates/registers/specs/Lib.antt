@@ -1,0 +1,3 @@
+pub mod Banks
+pub mod Write
+pub mod Read

@@ -1,0 +1,18 @@
+-- Document 01, "What a whole byte does": the byte that is due at a read. A read changes no register.
+use Prim.Native.Nat.{ℕ}
+use mathlib.Core.Bool.{cond, _&&_}
+use mathlib.Core.List.{List}
+use lib.ListN.{getD}
+use lib.Dec.{eqb}
+use Rattle.regmap.specs.declared.Entry.{Entry}
+use Rattle.regmap.specs.Format.{registerAt, blank, buffered, control}
+use Rattle.session.specs.declared.Settings.{Settings}
+use Rattle.session.specs.Settings.{controlReading}
+use Rattle.registers.specs.Banks.{Banks}
+
+unfoldable pub dueByte : List ℕ → Banks → Settings → ℕ → ℕ
+dueByte m b t a =
+    cond (eqb (registerAt m a .kind) blank) 0
+    (cond (eqb (registerAt m a .kind) control) (controlReading t a)
+    (cond (eqb (registerAt m a .kind) buffered && t .readback) (getD (b .buffer) a 0)
+    (getD (b .active) a 0)))

@@ -1,0 +1,28 @@
+// The byte that is due at a read. A read changes no register.
+ghost use mathlib.Core.Path.{_≡_};
+ghost use Rattle.registers.specs.Banks.{banks, Mapped};
+ghost use Rattle.registers.specs.Read.{dueByte};
+use regmap::BLANK;
+use regmap::BUFFERED;
+use regmap::CONTROL;
+use regmap::entry_at;
+use session::Settings;
+
+// The byte that a read of the register at an address is due.
+pub fn due_byte(map: &[u8], active: &[u8], buffer: &[u8], settings: Settings, address: u16) -> u8
+    requires { ⌜ Mapped (now map) (banks (now active) (now buffer)) ⌝ }
+    ensures { λ r. ⌜ r ≡ dueByte (now (map .entry)) (banks (now (active .entry)) (now (buffer .entry))) settings address ⌝ }
+{
+    let at = address as usize;
+    let kind = entry_at(map, active.len(), at).kind;
+    if kind == BLANK {
+        return 0;
+    }
+    if kind == CONTROL {
+        return settings.reading(address);
+    }
+    if (kind == BUFFERED) & settings.readback {
+        return buffer[at];
+    }
+    active[at]
+}

@@ -1,0 +1,5 @@
+mod Entries
+mod Places
+mod Giving
+mod Readers
+pub mod Laws

@@ -1,0 +1,43 @@
+-- `regmap::in_use::part_at` meets its contract: 0 beyond the map, also where no slice has the byte, and a byte of the map inside it.
+use mathlib.Core.Path.{refl, sym}
+use Prim.Native.Nat.{_+_, _*_}
+use native.Mathlib.Omega.{arith}
+use borrow.Author.Needs.{needs}
+use borrow.Author.Tests.{lt-ltb, le-ltb}
+use lib.ListN.{List·getD-eq-default}
+use Rattle.bits.proofs.Cases.{yes, no}
+use Rattle.regmap.proofs.in_use.part_at.Statement.{statement}
+use Rattle.regmap.proofs.in_use.part_at.Tie as tie
+
+returns : tie.Need-returns
+returns c =
+    let a = c .before .before .args in
+    no _ (le-ltb (a .address) (a .count) (omega arith)) refl
+
+returns-2 : tie.Need-returns-2
+returns-2 c =
+    let a = c .before .before .before .args in
+    yes _ (lt-ltb (a .address) (a .count) (omega arith))
+    (sym (List·getD-eq-default (a .map .now) 0 {n = 5 + 3 * a .address + a .part} (omega arith)))
+
+mul-byte-at : tie.Need-mul-byte-at
+mul-byte-at c = search needs
+
+add-byte-at : tie.Need-add-byte-at
+add-byte-at c = search needs
+
+add-byte-at-2 : tie.Need-add-byte-at-2
+add-byte-at-2 c = search needs
+
+byte-at-requires : tie.Need-byte-at-requires
+byte-at-requires c κs = search needs
+
+returns-3 : tie.Need-returns-3
+returns-3 c =
+    let a = c .before .before .before .before .args in
+    yes _ (lt-ltb (a .address) (a .count) (omega arith)) (c .byte-at .ensures)
+
+pub part-at-spec : {M : Type 1} → statement M
+part-at-spec =
+    tie.close
+    (tie.spec returns returns-2 mul-byte-at add-byte-at add-byte-at-2 byte-at-requires returns-3)

@@ -1,0 +1,17 @@
+-- `starting` meets its contract: an instruction with no bits, under the settings that it takes.
+use mathlib.Core.Path.{_∙_}
+use borrow.Author.Needs.{needs}
+use Rattle.session.proofs.state.starting.Statement.{statement}
+use Rattle.session.proofs.state.starting.Tie as tie
+
+in-use-requires : tie.Need-in-use-requires
+in-use-requires c κs = search needs
+
+instructing-requires : tie.Need-instructing-requires
+instructing-requires c κs = search needs
+
+returns : tie.Need-returns
+returns c = c .instructing .ensures ∙ rw (c .before .in-use .ensures)
+
+pub starting-spec : {M : Type 1} → statement M
+starting-spec = tie.close (tie.spec in-use-requires instructing-requires returns)

@@ -1,0 +1,84 @@
+// The sessions that a sample leads to, phase by phase.
+ghost use mathlib.Core.Path.{_≡_};
+ghost use Rattle.session.specs.State.{resting, instructing, starting, inData};
+use crate::InUse;
+use crate::Phase;
+use crate::Session;
+use crate::Settings;
+
+// At rest: CSB is high.
+pub(crate) fn resting(sclk: bool, settings: Settings) -> Session
+    ensures { λ r. ⌜ r ≡ resting sclk settings ⌝ }
+{
+    Session {
+        csb: true,
+        sclk: sclk,
+        phase: Phase::Rest,
+        bits: 0,
+        value: 0,
+        address: 0,
+        read: false,
+        settings: settings,
+        used: InUse {
+            lsb: false,
+            ascending: false,
+            sdo: false,
+            single: false,
+        },
+    }
+}
+
+// In an instruction, with some of its bits taken.
+pub(crate) fn instructing(
+    sclk: bool,
+    bits: u8,
+    value: u16,
+    settings: Settings,
+    used: InUse,
+) -> Session
+    ensures { λ r. ⌜ r ≡ instructing sclk bits value settings used ⌝ }
+{
+    Session {
+        csb: false,
+        sclk: sclk,
+        phase: Phase::Instruction,
+        bits: bits,
+        value: value,
+        address: 0,
+        read: false,
+        settings: settings,
+        used: used,
+    }
+}
+
+// At the start of an instruction, which takes the settings as they stand.
+pub(crate) fn starting(sclk: bool, settings: Settings) -> Session
+    ensures { λ r. ⌜ r ≡ starting sclk settings ⌝ }
+{
+    instructing(sclk, 0, 0, settings, settings.in_use())
+}
+
+// In the data at an address, with some bits of a byte taken.
+pub(crate) fn in_data(
+    sclk: bool,
+    bits: u8,
+    value: u16,
+    address: u16,
+    read: bool,
+    settings: Settings,
+    used: InUse,
+) -> Session
+    ensures { λ r. ⌜ r ≡ inData sclk bits value address read settings used ⌝ }
+{
+    Session {
+        csb: false,
+        sclk: sclk,
+        phase: Phase::Data,
+        bits: bits,
+        value: value,
+        address: address,
+        read: read,
+        settings: settings,
+        used: used,
+    }
+}
