@@ -1,0 +1,6 @@
+pub mod Bound
+pub mod Laws
+pub mod Refusals
+pub mod Running
+pub mod Scan
+pub mod Taking

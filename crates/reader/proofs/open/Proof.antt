@@ -1,0 +1,53 @@
+-- `open` meets its contract: done, each default stands in both banks; refused, the banks are as they were.
+use borrow.Author.Needs.{needs}
+use mathlib.Core.Path.{sym, _∙_}
+use Rattle.reader.proofs.Refusals.{opens, fits-mapped, open-refused, open-done}
+use Rattle.reader.proofs.open.Statement.{statement}
+use Rattle.reader.proofs.open.Tie as tie
+
+map-test-requires : tie.Need-map-test-requires
+map-test-requires c κs = search needs
+
+open-refusal-requires : tie.Need-open-refusal-requires
+open-refusal-requires c κs = search needs
+
+opened-requires : tie.Need-opened-requires
+opened-requires c κs = search needs
+
+reset-requires : tie.Need-reset-requires
+reset-requires c κs =
+    let t = opens _ _ (sym (c .before .before .before .before .open-refusal .ensures) ∙ c .before .before .if1 .taken) in
+    fits-mapped _ _ (t .0) (t .1)
+
+same-length : tie.Need-same-length
+same-length c = search needs
+
+same-length-2 : tie.Need-same-length-2
+same-length-2 c = search needs
+
+returns : tie.Need-returns
+returns c = open-done _ _ _ (c .before .before .before .before .before .before .before .before .before .open-refusal .ensures) _ (c .before .before .before .before .before .before .before .before .opened .ensures) (c .before .before .before .before .before .before .before .if1 .taken) _ (c .before .before .before .before .reset .ensures)
+
+same-length-3 : tie.Need-same-length-3
+same-length-3 c = search needs
+
+same-length-4 : tie.Need-same-length-4
+same-length-4 c = search needs
+
+returns-2 : tie.Need-returns-2
+returns-2 c = open-refused _ _ _ (c .before .before .open-refusal .ensures) _ (c .before .opened .ensures) (c .if1 .left)
+
+pub open-spec : {M : Type 1} → statement M
+open-spec =
+    tie.close
+    (tie.spec
+    map-test-requires
+    open-refusal-requires
+    opened-requires
+    reset-requires
+    same-length
+    same-length-2
+    returns
+    same-length-3
+    same-length-4
+    returns-2)

@@ -1,0 +1,51 @@
+-- What a list of samples does: the session and the banks after it, and its records in order of time.
+use Prim.Native.Nat.{ℕ, _+_}
+use mathlib.Core.Bool.{Bool, true, cond, _&&_}
+use mathlib.Core.List.{List, [], _∷_, _++_}
+use lib.Dec.{leb}
+use Rattle.session.specs.declared.Session.{Session}
+use Rattle.session.specs.declared.Event.{Event}
+use Rattle.session.specs.declared.Event.the-variants.{Nothing, Whole, Aborted}
+use Rattle.session.specs.Step.{stepOf}
+use Rattle.session.specs.Event.{eventOf}
+use Rattle.registers.specs.Banks.{Banks, banks}
+use Rattle.registers.specs.Write.{writeBanks}
+use Rattle.reader.specs.Records.{recordOf, recordsIn}
+
+-- a session and its banks
+pub record World : Type 0 where
+  pub session : Session
+  pub banks : Banks
+
+abbrev pub world : Session → List ℕ → List ℕ → World
+world s active buffer = record { session = s; banks = banks active buffer }
+
+-- Document 01, "What a whole byte does": a whole byte is written or read; a broken one does nothing.
+unfoldable pub banksAfter : List ℕ → Banks → Event → Banks
+banksAfter m b Nothing = b
+banksAfter m b (Whole read a v) = cond read b (writeBanks m b a v)
+banksAfter m b (Aborted a bits inData) = b
+
+-- one sample
+abbrev pub worldAfter : List ℕ → World → ℕ → World
+worldAfter m w x = record { session = stepOf (w .session) x; banks = banksAfter m (w .banks) (eventOf (w .session) x) }
+
+-- all samples
+unfoldable pub runOf : List ℕ → World → List ℕ → World
+runOf m w [] = w
+runOf m w (x ∷ xs) = runOf m (worldAfter m w x) xs
+
+-- the bytes of all records
+unfoldable pub recordsOf : List ℕ → World → List ℕ → List ℕ
+recordsOf m w [] = []
+recordsOf m w (x ∷ xs) = recordOf m (w .banks) (w .session .settings) (eventOf (w .session) x) ++ recordsOf m (worldAfter m w x) xs
+
+-- how many records the samples give: the session alone decides it
+unfoldable pub recordCount : Session → List ℕ → ℕ
+recordCount s [] = 0
+recordCount s (x ∷ xs) = recordsIn (eventOf s x) + recordCount (stepOf s x) xs
+
+-- Document 01, "Samples and edges": bits 4 to 7 of each sample are zero.
+unfoldable pub samplesGood : List ℕ → Bool
+samplesGood [] = true
+samplesGood (x ∷ xs) = leb x 15 && samplesGood xs

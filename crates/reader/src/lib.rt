@@ -1,0 +1,163 @@
+// The reader: sampled line levels and a register map in, records and both stages of every register out.
+//
+// Two public calls, `open` and `read`, with no `requires`: anything may be handed in, and what cannot be read is refused with
+// document 01's number before anything is changed.
+ghost use mathlib.Core.Path.{_≡_};
+ghost use lib.ListN.{length};
+ghost use Rattle.regmap.specs.MapTest.{mapNumber};
+ghost use Rattle.registers.specs.Banks.{banks};
+ghost use Rattle.reader.specs.Reading.{world};
+ghost use Rattle.reader.specs.Calls.{openNumber, opening, openOf, readNumber, outcome, readOf};
+
+mod records;
+mod room;
+mod run;
+
+use regmap::map_test;
+use room::room_suffices;
+use room::samples_good;
+use run::run_samples;
+use session::Session;
+
+// What opening answers: the number, and the opened session.
+pub struct Opened {
+    pub number: u8,
+    pub session: Session,
+}
+
+// What reading answers: the number, the next session, and how many records there are.
+pub struct Answer {
+    pub number: u8,
+    pub session: Session,
+    pub count: usize,
+}
+
+// The number of opening, by that of the map test: 0, or the refusal.
+fn open_refusal(number: u8, map: &[u8], active: &[u8], buffer: &[u8]) -> u8
+    requires { ⌜ number ≡ mapNumber (now map) ⌝ }
+    ensures { λ r. ⌜ r ≡ openNumber (now (map .entry)) (banks (now (active .entry)) (now (buffer .entry))) ⌝ }
+{
+    if number != 0 {
+        return number;
+    }
+    let count = regmap::count(map);
+    if (active.len() == count) & (buffer.len() == count) {
+        return 0;
+    }
+    4
+}
+
+// Puts each default in both banks. The opened session is returned always.
+pub fn open(map: &[u8], active: &mut [u8], buffer: &mut [u8]) -> Opened
+    ensures { λ r. ⌜ opening (r .number) (r .session) (banks (now (active .exit)) (now (buffer .exit))) ≡ openOf (now (map .entry)) (banks (now (active .entry)) (now (buffer .entry))) ⌝ }
+{
+    let number = open_refusal(map_test(map), map, active, buffer);
+    let session = session::opened();
+    if number == 0 {
+        registers::reset(map, active, buffer);
+    }
+    Opened {
+        number: number,
+        session: session,
+    }
+}
+
+// The number of reading, by that of the map test: 0, or the refusal.
+fn read_refusal(
+    number: u8,
+    map: &[u8],
+    session: Session,
+    active: &[u8],
+    buffer: &[u8],
+    samples: &[u8],
+    room: usize,
+) -> u8
+    requires { ⌜ number ≡ mapNumber (now map) ⌝ }
+    ensures { λ r. ⌜ r ≡ readNumber (now (map .entry)) (world session (now (active .entry)) (now (buffer .entry))) (now (samples .entry)) room ⌝ }
+{
+    if !session.sound() {
+        return 1;
+    }
+    let opens = open_refusal(number, map, active, buffer);
+    if opens != 0 {
+        return opens;
+    }
+    if 65536 < samples.len() {
+        return 5;
+    }
+    if !samples_good(samples) {
+        return 5;
+    }
+    if room_suffices(session, samples, room) {
+        return 0;
+    }
+    6
+}
+
+// Reads samples, by the number of the map test.
+fn read_by(
+    number: u8,
+    map: &[u8],
+    session: Session,
+    active: &mut [u8],
+    buffer: &mut [u8],
+    samples: &[u8],
+    records: &mut [u8],
+) -> Answer
+    requires { ⌜ number ≡ mapNumber (now map) ⌝ }
+    ensures { λ r. ⌜ outcome (r .number) (world (r .session) (now (active .exit)) (now (buffer .exit))) (r .count) (now (records .exit)) ≡ readOf (now (map .entry)) (world session (now (active .entry)) (now (buffer .entry))) (now (samples .entry)) (now (records .entry)) ⌝ }
+{
+    let refused = read_refusal(number, map, session, active, buffer, samples, records.len());
+    if refused != 0 {
+        return Answer {
+            number: refused,
+            session: session,
+            count: 0,
+        };
+    }
+    let done = run_samples(true, map, session, active, buffer, samples, records);
+    let next = done.session;
+    Answer {
+        number: 0,
+        session: next,
+        count: done.size / 6,
+    }
+}
+
+// Reads samples: the session and the banks that they lead to, and their records, six bytes each, from the buffer's start.
+pub fn read(
+    map: &[u8],
+    session: Session,
+    active: &mut [u8],
+    buffer: &mut [u8],
+    samples: &[u8],
+    records: &mut [u8],
+) -> Answer
+    ensures { λ r. ⌜ outcome (r .number) (world (r .session) (now (active .exit)) (now (buffer .exit))) (r .count) (now (records .exit)) ≡ readOf (now (map .entry)) (world session (now (active .entry)) (now (buffer .entry))) (now (samples .entry)) (now (records .entry)) ⌝ }
+{
+    read_by(
+        map_test(map),
+        map,
+        session,
+        active,
+        buffer,
+        samples,
+        records,
+    )
+}
+
+// The same on a map that is known to be good, as opening has shown it. This is no public call: it is for a program that reads
+// one trace in many pieces and tests the map once.
+pub fn read_tested(
+    map: &[u8],
+    session: Session,
+    active: &mut [u8],
+    buffer: &mut [u8],
+    samples: &[u8],
+    records: &mut [u8],
+) -> Answer
+    requires { ⌜ mapNumber (now map) ≡ 0 ⌝ }
+    ensures { λ r. ⌜ outcome (r .number) (world (r .session) (now (active .exit)) (now (buffer .exit))) (r .count) (now (records .exit)) ≡ readOf (now (map .entry)) (world session (now (active .entry)) (now (buffer .entry))) (now (samples .entry)) (now (records .entry)) ⌝ }
+{
+    read_by(0, map, session, active, buffer, samples, records)
+}

@@ -1,0 +1,156 @@
+-- A table against its rule, texts one after another, the lines of records, and the digits of a number.
+use mathlib.Core.Path.{_≡_, refl, sym, ap, _∙_}
+use mathlib.Core.List.{List, [], _∷_, _++_}
+use Prim.Native.Nat.{ℕ, zero, suc, _+_, _-_, _*_, _/_, _%_, _^_, _<_, _≤_, min}
+use native.Mathlib.Omega.{arith}
+use native.Mathlib.Numerals.{unary-clauses, sub-one}
+use native.Mathlib.Nat.{add-zero, add-suc, suc-add, pow-suc, one-le-pow, pow-le-pow-right, lt-of-not-le}
+use lib.ListN.{length, getD, drop, length-append}
+use lib.Seq.{sets, length-sets, length-take-le, drop-drop, getD-drop}
+use lib.Dec.{eqb}
+use borrow.Author.Tests.{eq-eqb, ne-eqb, lt-ltb}
+use Rattle.io.specs.Digits.{digits, glyph, Fewest}
+use Rattle.bits.specs.Buffer.{filled}
+use Rattle.bits.proofs.Buffer.{sets-append, sets-filled}
+use Rattle.bits.proofs.Cases.{each}
+use Rattle.report.specs.Numbers.{digitOf, decimalIn, decimalOf}
+use Rattle.report.specs.Text.{lineOf, linesOf}
+use Rattle.report.specs.Put.{Placed, Printed, Listed}
+
+-- a rule at k places, from i on
+abbrev pub tabled : (ℕ → ℕ) → ℕ → ℕ → List ℕ
+tabled f zero i = []
+tabled f (suc k) i = f i ∷ tabled f k (suc i)
+
+-- a table that computes to its rule has it at each entry
+pub entry-tabled : (f : ℕ → ℕ) (k i d : ℕ) → d < k → getD (tabled f k i) d 0 ≡ f (i + d)
+entry-tabled f zero i d h = absurd (omega arith)
+entry-tabled f (suc k) i zero h = rw add-zero
+entry-tabled f (suc k) i (suc d) h = rw (add-suc, ← suc-add) (entry-tabled f k (suc i) d (omega arith))
+
+-- one text after another
+pub placed-next : {a b : List ℕ} {at : ℕ} {old mid new : List ℕ} {i j : ℕ}
+    → Placed a at old mid i → Placed b i mid new j → Placed (a ++ b) at old new j
+placed-next {a} {b} {at} {old} p q = record {
+  place = simp length-append (omega (arith, p .place, q .place));
+  buffer = q .buffer ∙ rw (p .place, p .buffer) (sym (sets-append a b old at));
+}
+
+-- a text at the start of a buffer
+pub placed-printed : {line old new : List ℕ} {n : ℕ} → n ≤ length old → Placed line 0 old new n → Printed line old new n
+placed-printed {line} {old} {new} {n} h p = record {
+  bytes = omega (arith, p .place);
+  buffer = p .buffer ∙ sets-filled line old (omega (arith, p .place));
+  within = (fits, sym (length-take-le n new fits));
+}
+  where
+    fits : n ≤ length new
+    fits = omega (arith, h, ap length (p .buffer) ∙ length-sets old 0 line)
+
+-- the six bytes of the record at a place
+pub line-at : (records : List ℕ) (i : ℕ)
+    → lineOf
+    (getD records i 0 ∷ getD records (i + 1) 0 ∷ getD records (i + 2) 0 ∷ getD records (i + 3) 0 ∷ getD records (i + 4) 0
+    ∷ getD records (i + 5) 0 ∷ [])
+    ≡ lineOf (drop i records)
+unfolding lineOf
+line-at records i = simp (getD-drop, add-zero)
+
+line-length : (r : List ℕ) → length (lineOf r) ≡ 15
+unfolding lineOf
+line-length r = refl
+
+lines-length : (n : ℕ) (records : List ℕ) → length (linesOf n records) ≡ n * 15
+unfolding linesOf
+lines-length zero records = refl
+lines-length (suc n) records = simp length-append (omega (arith, line-length records, lines-length n (drop 6 records)))
+
+-- n of `all` lines are put: those of the records that are left, from there on, would make the buffer what it is to be
+pub record Listing (records old new : List ℕ) (all n : ℕ) : Type 0 where
+  pub within : n ≤ all
+  pub same : length new ≡ length old
+  pub rest : sets new (n * 15) (linesOf (all - n) (drop (n * 6) records)) ≡ sets old 0 (linesOf all records)
+
+pub begun : (records old : List ℕ) (all : ℕ) → Listing records old old all 0
+begun records old all = record { within = omega arith; same = refl; rest = rw (ap (λ (k : ℕ). linesOf k records) e) }
+  where
+    e : all - 0 ≡ all
+    e = omega arith
+
+module _ {records old new : List ℕ} {all n : ℕ} (k : Listing records old new all n) where
+  pub turned : n < all → Listing records old (sets new (n * 15) (lineOf (drop (n * 6) records))) all (n + 1)
+  unfolding linesOf
+  turned h = record {
+    within = omega arith;
+    same = length-sets new (n * 15) (lineOf (drop (n * 6) records)) ∙ k .same;
+    rest =
+        ap (λ (i : ℕ). sets (sets new (n * 15) first) i (linesOf (all - (n + 1)) (drop ((n + 1) * 6) records))) place
+        ∙ ap (λ (l : List ℕ). sets (sets new (n * 15) first) (n * 15 + length first) (linesOf (all - (n + 1)) l)) left
+        ∙ sym (sets-append first _ new (n * 15))
+        ∙ ap (λ (j : ℕ). sets new (n * 15) (linesOf j (drop (n * 6) records))) one
+        ∙ k .rest;
+  }
+    where
+      first : List ℕ
+      first = lineOf (drop (n * 6) records)
+
+      place : (n + 1) * 15 ≡ n * 15 + length (lineOf (drop (n * 6) records))
+      place = omega (arith, line-length (drop (n * 6) records))
+
+      six : (n + 1) * 6 ≡ n * 6 + 6
+      six = omega arith
+
+      left : drop ((n + 1) * 6) records ≡ drop 6 (drop (n * 6) records)
+      left = ap (λ (i : ℕ). drop i records) six ∙ sym (drop-drop 6 (n * 6) records)
+
+      one : suc (all - (n + 1)) ≡ all - n
+      one = omega arith
+
+  pub ended : all ≤ n → all ≡ min (length records / 6) (length old / 15) → Listed records old new all
+  unfolding linesOf
+  ended h e = record {
+    lines = e;
+    buffer =
+        sym (ap (λ (j : ℕ). sets new (n * 15) (linesOf j (drop (n * 6) records))) none)
+        ∙ k .rest
+        ∙ sets-filled (linesOf all records) old (omega (arith, lines-length all records));
+  }
+    where
+      none : all - n ≡ 0
+      none = omega arith
+
+-- a number has at most as many digits as the bound
+pub decimal-length : (k n : ℕ) → length (decimalIn k n) ≤ k
+unfolding decimalIn
+decimal-length zero n = omega arith
+decimal-length (suc k) n =
+    simp length-append
+    (each (λ (l : List ℕ). length l + 1 ≤ suc k) (eqb (n / 10) 0) (λ e. omega arith) (λ e. omega (arith, decimal-length k (n / 10))))
+
+glyph-digit : (n : ℕ) → glyph (n % 10) ≡ digitOf (n % 10)
+glyph-digit n = rw (lt-ltb (n % 10) 10 (omega arith))
+
+-- the fewest digits that hold a number are its decimal
+fewest-decimal : (b k n : ℕ) → k ≤ b → Fewest 10 1 n k → digits 10 k n ≡ decimalIn b n
+unfolding decimalIn
+fewest-decimal b zero n h f = absurd (omega (arith, f .0))
+fewest-decimal zero (suc k) n h f = absurd (omega arith)
+fewest-decimal (suc b) (suc zero) n h f = rw (eq-eqb (n / 10) 0 (omega (arith, f .1)), glyph-digit n)
+fewest-decimal (suc b) (suc (suc k)) n h f =
+    let high : 10 ^ suc k ≤ n = simp sub-one at (f .2 (omega arith)) in
+    let p : 10 ^ suc (suc k) ≡ 10 ^ suc k * 10 = pow-suc 10 (suc k) in
+    let q : 10 ^ suc k ≡ 10 ^ k * 10 = pow-suc 10 k in
+    let tens : n / 10 ≡ 0 → ⊥ = λ e. omega (arith, one-le-pow k 10 (omega arith)) in
+    rw (ne-eqb (n / 10) 0 tens, glyph-digit n)
+    (ap (λ (l : List ℕ). l ++ (digitOf (n % 10) ∷ []))
+    (fewest-decimal b (suc k) (n / 10) (omega arith) (omega arith, omega (arith, f .1), λ e. simp unary-clauses (omega arith))))
+
+-- a number of 64 bits has at most 20 digits
+pub at-most-20 : (k n : ℕ) → n < 2 ^ 64 → Fewest 10 1 n k → k ≤ 20
+at-most-20 k n h f = omega (arith, lt-of-not-le {n = 21} {m = k} more)
+  where
+    more : 21 ≤ k → ⊥
+    more e = omega (arith, f .2 (omega arith), pow-le-pow-right {n = 10} (omega arith) {i = 20} {j = k - 1} (omega arith))
+
+pub decimal-digits : (k n : ℕ) → n < 2 ^ 64 → Fewest 10 1 n k → digits 10 k n ≡ decimalOf n
+decimal-digits k n h f = fewest-decimal 20 k n (at-most-20 k n h f) f

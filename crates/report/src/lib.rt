@@ -1,0 +1,149 @@
+// The text that the bench program prints.
+ghost use mathlib.Core.Path.{_≡_};
+ghost use mathlib.Core.List.{_∷_, []};
+ghost use Prim.Native.Nat.{_+_, _<_, _≤_, min};
+ghost use lib.Seq.{sets};
+ghost use lib.ListN.{length, drop};
+ghost use Rattle.report.specs.Numbers.{digitOf, decimalOf};
+ghost use Rattle.report.specs.Text.{letterOf, lineOf, mapLine, countLine, refusedLine};
+ghost use Rattle.report.specs.Put.{Placed, Printed, Listed};
+
+// The digits, in order of their value.
+const DIGITS: [u8; 16] = *b"0123456789ABCDEF";
+
+// The bytes of a record, and of its line.
+const RECORD: usize = 6;
+
+const LINE: usize = 15;
+
+// A digit below 16.
+fn digit(d: u8) -> u8
+    requires { ⌜ d < 16 ⌝ }
+    ensures { λ r. ⌜ r ≡ digitOf d ⌝ }
+{
+    DIGITS[d as usize]
+}
+
+// The letter of a record's kind.
+fn letter(kind: u8) -> u8
+    ensures { λ r. ⌜ r ≡ letterOf kind ⌝ }
+{
+    if kind == 1 {
+        return b'W';
+    }
+    if kind == 2 {
+        return b'R';
+    }
+    b'C'
+}
+
+// The line of a record.
+fn line_of(kind: u8, high: u8, low: u8, third: u8, fourth: u8, fifth: u8) -> [u8; LINE]
+    ensures { λ r. ⌜ r ≡ lineOf (kind ∷ high ∷ low ∷ third ∷ fourth ∷ fifth ∷ []) ⌝ }
+{
+    [
+        letter(kind),
+        b' ',
+        digit(high / 16),
+        digit(high % 16),
+        digit(low / 16),
+        digit(low % 16),
+        b' ',
+        digit(third / 16),
+        digit(third % 16),
+        b' ',
+        digit(fourth / 16),
+        digit(fourth % 16),
+        b' ',
+        digit(fifth % 16),
+        b'\n',
+    ]
+}
+
+// The line of the record that stands at a place, put at a place of the buffer.
+fn put_line(records: &[u8], from: usize, out: &mut [u8], at: usize)
+    requires { ⌜ (from + 6 ≤ length (now records)) × (at + 15 ≤ length (now out)) ⌝ }
+    ensures { λ _. ⌜ now (out .exit) ≡ sets (now (out .entry)) at (lineOf (drop from (now (records .entry)))) ⌝ }
+{
+    let line = line_of(
+        records[from],
+        records[from + 1],
+        records[from + 2],
+        records[from + 3],
+        records[from + 4],
+        records[from + 5],
+    );
+    put(&line, out, at);
+}
+
+// The lines of as many records as there are and as fit; how many that is.
+pub fn put_lines(records: &[u8], out: &mut [u8]) -> usize
+    ensures { λ r. ⌜ Listed (now (records .entry)) (now (out .entry)) (now (out .exit)) r ⌝ }
+{
+    let lines = least(records.len() / RECORD, out.len() / LINE);
+    let mut n = 0;
+    while n < lines {
+        put_line(records, n * RECORD, out, n * LINE);
+        n += 1;
+    }
+    lines
+}
+
+// The smaller of two numbers.
+fn least(a: usize, b: usize) -> usize
+    ensures { λ r. ⌜ r ≡ min a b ⌝ }
+{
+    if a < b { a } else { b }
+}
+
+// Bytes put at a place; the place after them.
+fn put(bytes: &[u8], out: &mut [u8], at: usize) -> usize
+    requires { ⌜ at + length (now bytes) ≤ length (now out) ⌝ }
+    ensures { λ r. ⌜ Placed (now (bytes .entry)) at (now (out .entry)) (now (out .exit)) r ⌝ }
+{
+    let mut i = 0;
+    while i < bytes.len() {
+        out[at + i] = bytes[i];
+        i += 1;
+    }
+    at + i
+}
+
+// A number in decimal, put at a place; the place after it.
+fn put_decimal(n: u64, out: &mut [u8], at: usize) -> usize
+    requires { ⌜ at + 20 ≤ length (now out) ⌝ }
+    ensures { λ r. ⌜ Placed (decimalOf n) at (now (out .entry)) (now (out .exit)) r ⌝ }
+{
+    let mut digits = [0u8; 20];
+    let k = io::decimal(n, &mut digits);
+    put(&digits[..k], out, at)
+}
+
+// The first line, with the number of registers; how many bytes it is.
+pub fn put_map_line(n: u64, out: &mut [u8; 64]) -> usize
+    ensures { λ r. ⌜ Printed (mapLine n) (now (out .entry)) (now (out .exit)) r ⌝ }
+{
+    let at = put(b"map ", out, 0);
+    let at = put_decimal(n, out, at);
+    put(b"\n", out, at)
+}
+
+// The last line, with the numbers of records and samples; how many bytes it is.
+pub fn put_count_line(records: u64, samples: u64, out: &mut [u8; 64]) -> usize
+    ensures { λ r. ⌜ Printed (countLine records samples) (now (out .entry)) (now (out .exit)) r ⌝ }
+{
+    let at = put(b"records ", out, 0);
+    let at = put_decimal(records, out, at);
+    let at = put(b" samples ", out, at);
+    let at = put_decimal(samples, out, at);
+    put(b"\n", out, at)
+}
+
+// The line of a refusal, with its number; how many bytes it is.
+pub fn put_refused_line(number: u8, out: &mut [u8; 64]) -> usize
+    ensures { λ r. ⌜ Printed (refusedLine number) (now (out .entry)) (now (out .exit)) r ⌝ }
+{
+    let at = put(b"refused ", out, 0);
+    let at = put_decimal(number as u64, out, at);
+    put(b"\n", out, at)
+}

@@ -1,0 +1,5 @@
+pub mod Masks
+pub mod Paths
+pub mod Pieces
+pub mod Scanning
+pub mod Whole

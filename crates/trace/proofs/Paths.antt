@@ -1,0 +1,50 @@
+-- Samples without an event, one after the other: what is known before them holds after them.
+use mathlib.Core.Path.{_≡_, refl, ap, _∙_}
+use mathlib.Core.Bool.{Bool, true, false, cond, true≢false}
+use mathlib.Core.List.{List}
+use Prim.Native.Nat.{ℕ}
+use lib.Dec.{ltb}
+use Rattle.bits.proofs.Cases.{each}
+use Rattle.session.specs.declared.Phase.{Phase}
+use Rattle.session.specs.declared.Phase.the-variants.{Rest, Instruction, Data}
+use Rattle.session.specs.declared.Session.{Session}
+use Rattle.session.specs.declared.Event.{Event}
+use Rattle.session.specs.declared.Event.the-variants.{Nothing, Whole}
+use Rattle.session.specs.Step.{csbFalls, csbRises, takesBit, valueWith, dataLine, withInstructionBit, withDataBit, withBit, stepOf}
+use Rattle.session.specs.Event.{isData, bitEvent, eventOf}
+use Rattle.trace.specs.Path.{Quiet, still, more, Next, none, one, happens}
+
+pub joined : {xs : List ℕ} {s t u : Session} {i j k : ℕ} → Quiet xs s i t j → Quiet xs t j u k → Quiet xs s i u k
+joined p still = p
+joined p (more q h e) = more (joined p q) h e
+
+pub joined-next : {xs : List ℕ} {s t u : Session} {i j k : ℕ} {e : Event} → Quiet xs s i t j → Next xs t j e u k → Next xs s i e u k
+joined-next p (none q) = none (joined p q)
+joined-next p (one q h) = one (joined p q) h
+
+-- a byte of data that is not whole
+data-settings : (s : Session) (x : ℕ) (go : Bool) → ltb (s .bits) 7 ≡ go
+    → cond go Nothing (Whole (s .read) (s .address) (valueWith s (dataLine s x))) ≡ Nothing → withDataBit s (dataLine s x) .settings ≡ s .settings
+unfolding withDataBit
+data-settings s x true h e = rw h
+data-settings s x false h e = absurd (true≢false (ap happens e))
+
+bit-settings : (p : Phase) (s : Session) (x : ℕ)
+    → cond (isData p) (cond (ltb (s .bits) 7) Nothing (Whole (s .read) (s .address) (valueWith s (dataLine s x)))) Nothing ≡ Nothing
+    → withBit p s x .settings ≡ s .settings
+unfolding withInstructionBit
+bit-settings Rest s x e = refl
+bit-settings Instruction s x e = each (λ (t : Session). t .settings ≡ s .settings) (ltb (s .bits) 15) (λ h. refl) (λ h. refl)
+bit-settings Data s x e = data-settings s x (ltb (s .bits) 7) refl e
+
+-- without an event no setting changes
+step-settings : (s : Session) (x : ℕ) → eventOf s x ≡ Nothing → stepOf s x .settings ≡ s .settings
+unfolding stepOf eventOf bitEvent
+step-settings s x e =
+    each (λ (t : Session). t .settings ≡ s .settings) (csbFalls s x) (λ f. refl)
+    (λ f. each (λ (t : Session). t .settings ≡ s .settings) (takesBit s x) (λ t. bit-settings (s .phase) s x (rw t at e))
+    (λ t. each (λ (t : Session). t .settings ≡ s .settings) (csbRises s x) (λ r. refl) (λ r. refl)))
+
+pub settings-quiet : {xs : List ℕ} {s t : Session} {i j : ℕ} → Quiet xs s i t j → t .settings ≡ s .settings
+settings-quiet still = refl
+settings-quiet (more q h e) = step-settings _ _ e ∙ settings-quiet q

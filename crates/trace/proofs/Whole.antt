@@ -1,0 +1,93 @@
+-- A whole byte of sixteen samples, each bit of two: the next event, where the end of the byte changes only the address.
+use mathlib.Core.Path.{_≡_, refl, sym, _∙_, ap}
+use mathlib.Core.Bool.{Bool, true, false, cond, _&&_, _||_, false≢true}
+use mathlib.Core.List.{List}
+use Prim.Native.Nat.{ℕ, _+_, _*_}
+use native.Mathlib.Omega.{arith}
+use lib.Dec.{leb}
+use lib.ListN.{getD}
+use borrow.Author.Tests.{ne-eqb, eqb-true, leb-true, not-true}
+use Rattle.bits.specs.Bits.{bitAt}
+use Rattle.bits.proofs.Cases.{every-true}
+use Rattle.session.specs.declared.Phase.{Phase}
+use Rattle.session.specs.declared.Phase.the-variants.{Rest, Instruction, Data}
+use Rattle.session.specs.declared.Settings.{Settings}
+use Rattle.session.specs.declared.Session.{Session}
+use Rattle.session.specs.declared.Event.the-variants.{Whole}
+use Rattle.session.specs.State.{soundSession}
+use Rattle.session.specs.Settings.{settingsAfter}
+use Rattle.session.specs.Step.{takesBit, valueWith, nextAddress, withDataBit, stepOf}
+use Rattle.session.specs.Event.{isData, bitEvent, eventOf}
+use Rattle.session.proofs.Form.{Form, rests, instructs, has-data, sound-form}
+use Rattle.trace.specs.Words.{Pair, gathered}
+use Rattle.trace.specs.Path.{Next, one}
+use Rattle.trace.specs.Piece.{held, lastOf, lineOf, streamTests, ByteAhead}
+use Rattle.trace.proofs.Masks.{gathered-more}
+use Rattle.trace.proofs.Pieces.{piece, on-line, bits-passed, bit-taken, no-value}
+
+-- a session with the level of SCLK high and another address
+abbrev pub moved : Session → ℕ → Session
+moved s a = record {
+  csb = s .csb;
+  sclk = true;
+  phase = s .phase;
+  bits = s .bits;
+  value = s .value;
+  address = a;
+  read = s .read;
+  settings = s .settings;
+  used = s .used;
+}
+
+kept : (r : Bool) (t : Settings) (a v : ℕ) → (r || leb 2 a) ≡ true → cond r t (settingsAfter t a v) ≡ t
+unfolding settingsAfter
+kept true t a v h = refl
+kept false t a v h =
+    let l = leb-true 2 a h in
+    rw (ne-eqb a 0 (λ (z : a ≡ 0). omega arith), ne-eqb a 1 (λ (z : a ≡ 1). omega arith))
+
+-- the last bit of a byte
+abbrev byteTaken : Session → Session
+byteTaken s = record {
+  csb = false;
+  sclk = true;
+  phase = s .phase;
+  bits = 0;
+  value = 0;
+  address = nextAddress (s .used .ascending) (s .address);
+  read = s .read;
+  settings = s .settings;
+  used = s .used;
+}
+
+last-bit : {s : Session} → Form s → (x : ℕ) → takesBit s x ≡ true → isData (s .phase) ≡ true → s .bits ≡ 7 → s .used .single ≡ false
+    → (s .read || leb 2 (s .address)) ≡ true
+    → (stepOf s x ≡ byteTaken s) × (eventOf s x ≡ Whole (s .read) (s .address) (valueWith s (bitAt x (lineOf s))))
+unfolding stepOf withDataBit eventOf bitEvent
+last-bit (rests k t) x b d e o h = absurd (false≢true d)
+last-bit (instructs k n v t u g f) x b d e o h = absurd (false≢true d)
+last-bit (has-data k n v a r t u g f q) x b d e o h = (rw (b, e, o, kept r t a _ h), rw (b, e, on-line (r && u .sdo) x))
+
+data-last : (p : Phase) → isData p ≡ true → 7 ≡ lastOf p
+data-last Rest e = absurd (false≢true e)
+data-last Instruction e = absurd (false≢true e)
+data-last Data e = refl
+
+-- such a byte is the next event
+pub whole-byte : {xs : List ℕ} {s : Session} {i : ℕ} → soundSession s ≡ true → ByteAhead xs s i
+    → Next xs s i (Whole (s .read) (s .address) (gathered xs (lineOf s) (s .used .lsb) i 8)) (moved s (nextAddress (s .used .ascending) (s .address))) (i + 16)
+unfolding Pair
+whole-byte {xs} {s} {i} sound b =
+    let t = every-true (streamTests s) (b .streams) in
+    let e = eqb-true (s .bits) 0 (t .1 .0) in
+    let low = not-true (s .csb) (t .1 .1 .0) in
+    let r = bits-passed 7 low sound e (data-last (s .phase) (t .0)) (b .clocked) (omega (arith, b .clocked .within)) in
+    let p = piece 0 7 (gathered xs (lineOf s) (s .used .lsb) i 7) (i + 2 * 7 + 1) in
+    let x = getD xs (i + 2 * 7 + 1) 0 in
+    let z = b .clocked .pair 7 (omega arith) .1 in
+    let taken = bit-taken s p x low (omega (arith, z)) (r .apt) (omega (arith, z)) in
+    let l = last-bit (sound-form (held s p) (r .apt .sound)) x taken (t .0) refl (not-true (s .used .single) (t .1 .1 .1 .0)) (t .1 .1 .1 .1 .0) in
+    let same : byteTaken (held s p) ≡ moved s (nextAddress (s .used .ascending) (s .address)) = rw (low, e, no-value s sound e) in
+    let byte = ap (Whole (s .read) (s .address)) (sym (gathered-more xs (lineOf s) (s .used .lsb) i 7)) in
+    let place : i + 2 * 7 + 1 + 1 ≡ i + 16 = omega arith in
+    rw (l .0 ∙ same, l .1 ∙ byte, place) at (one (r .path) (omega (arith, b .clocked .within)))

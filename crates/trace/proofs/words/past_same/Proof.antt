@@ -1,0 +1,48 @@
+-- `past_same` meets its contract: one sample, and eight more where all have the same levels.
+use Prim.Native.Nat.{_+_}
+use mathlib.Core.Path.{_≡_}
+use native.Mathlib.Omega.{arith}
+use Rattle.trace.proofs.Masks.{same-first, same-none}
+use borrow.Author.Needs.{needs}
+use Rattle.trace.proofs.words.past_same.Statement.{statement}
+use Rattle.trace.proofs.words.past_same.Tie as tie
+
+shared-slice-read-if1 : tie.Need-shared-slice-read-if1
+shared-slice-read-if1 c = search needs
+
+returns : tie.Need-returns
+returns c = search needs
+
+add-all-at : tie.Need-add-all-at
+add-all-at c = search needs
+
+all-at-requires : tie.Need-all-at-requires
+all-at-requires c κs = search needs
+
+add-result : tie.Need-add-result
+add-result c = search needs
+
+returns-2 : tie.Need-returns-2
+returns-2 c =
+    let a = c .before .before .before .before .before .args .at in
+    let e : a + 1 + 8 ≡ a + 9 = omega arith in
+    rw e at (same-first (omega arith) (c .before .before .if1 .left) (c .before .all-at .ensures (c .if2 .taken)))
+
+add-result-2 : tie.Need-add-result-2
+add-result-2 c = search needs
+
+returns-3 : tie.Need-returns-3
+returns-3 c = same-first (omega arith) (c .before .before .if1 .left) (same-none (omega arith))
+
+pub past-same-spec : {M : Type 1} → statement M
+past-same-spec =
+    tie.close
+    (tie.spec
+    shared-slice-read-if1
+    returns
+    add-all-at
+    all-at-requires
+    add-result
+    returns-2
+    add-result-2
+    returns-3)

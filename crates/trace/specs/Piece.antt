@@ -1,0 +1,63 @@
+-- What samples without an event change of a session: the level of SCLK, the bits taken and their value.
+use Prim.Native.Nat.{ℕ, _%_, _<_, _≤_}
+use mathlib.Core.Path.{_≡_}
+use mathlib.Core.Bool.{Bool, true, cond, not, _&&_, _||_}
+use mathlib.Core.List.{List, [], _∷_}
+use lib.ListN.{length}
+use lib.Dec.{eqb, leb}
+use Rattle.bits.specs.Tests.{every}
+use Rattle.session.specs.declared.Phase.{Phase}
+use Rattle.session.specs.declared.Phase.the-variants.{Rest, Instruction, Data}
+use Rattle.session.specs.declared.Session.{Session}
+use Rattle.session.specs.State.{soundSession}
+use Rattle.session.specs.Event.{isData}
+use Rattle.trace.specs.declared.quiet.Piece.{Piece}
+use Rattle.trace.specs.Words.{Clocked}
+use Rattle.trace.specs.Path.{Quiet}
+
+-- a session with the level, the bits and the value of a piece
+abbrev pub held : Session → Piece → Session
+held s p = record {
+  csb = s .csb;
+  sclk = eqb (p .level) 2;
+  phase = s .phase;
+  bits = p .bits;
+  value = p .value;
+  address = s .address;
+  read = s .read;
+  settings = s .settings;
+  used = s .used;
+}
+
+-- how many bits come before the last of a piece
+abbrev pub lastOf : Phase → ℕ
+lastOf Rest = 0
+lastOf Instruction = 15
+lastOf Data = 7
+
+-- the line that bits come from, as its place in a sample
+abbrev pub lineOf : Session → ℕ
+lineOf s = cond (isData (s .phase) && s .read && s .used .sdo) 3 2
+
+-- a level of SCLK, 0 or 2, and a session that is sound with the piece
+pub record Apt (s : Session) (p : Piece) : Type 0 where
+  pub even : p .level % 2 ≡ 0
+  pub level : p .level < 4
+  pub sound : soundSession (held s p) ≡ true
+
+-- from session s before sample i, without an event, to where a piece stands
+pub record Reached (xs : List ℕ) (s : Session) (i : ℕ) (p : Piece) : Type 0 where
+  pub ahead : i ≤ p .at
+  pub within : p .at ≤ length xs
+  pub apt : Apt s p
+  pub path : Quiet xs s i (held s p) (p .at)
+
+-- a byte of data starts whose end changes only the address
+abbrev pub streamTests : Session → List Bool
+streamTests s =
+    isData (s .phase) ∷ eqb (s .bits) 0 ∷ not (s .csb) ∷ not (s .used .single) ∷ (s .read || leb 2 (s .address)) ∷ []
+
+-- and its sixteen samples come next
+pub record ByteAhead (xs : List ℕ) (s : Session) (i : ℕ) : Type 0 where
+  pub streams : every (streamTests s) ≡ true
+  pub clocked : Clocked xs i 8

@@ -1,0 +1,97 @@
+//! A chip on the bus as the second implementation sees it: a map with its
+//! session and its two banks.
+
+use crate::second::reader::{self, RECORD};
+use crate::second::sender::{send, Order};
+use crate::second::session::Session;
+use crate::second::settings::Settings;
+use crate::second::Answer;
+
+/// What the sender's settings number names, in its order.
+const ORDERED: [Settings; 3] =
+    [Settings::LSB_FIRST, Settings::ASCENDING, Settings::SINGLE_INSTRUCTION];
+
+#[derive(Clone, Debug, PartialEq, Eq)]
+pub struct Chip {
+    pub map: Vec<u8>,
+    pub session: Session,
+    pub active: Vec<u8>,
+    pub buffer: Vec<u8>,
+}
+
+impl Chip {
+    /// The chip after opening. The map has to be a good one.
+    pub fn opened(map: &[u8]) -> Self {
+        let count = (map.len() - 5) / 3;
+        let (mut active, mut buffer) = (vec![0; count], vec![0; count]);
+        let (number, session) = reader::open(map, &mut active, &mut buffer);
+        assert_eq!(number, 0, "the map of a chip is good");
+        Chip { map: map.to_vec(), session, active, buffer }
+    }
+
+    /// The read call as it is.
+    pub fn call(&mut self, samples: &[u8], records: &mut [u8]) -> Answer {
+        let Chip { map, session, active, buffer } = self;
+        reader::read(map, session, active, buffer, samples, records)
+    }
+
+    /// Reads samples that nothing refuses, and gives their records as lines.
+    pub fn read(&mut self, samples: &[u8]) -> Vec<String> {
+        let mut records = vec![0; RECORD * samples.len()];
+        let answer = self.call(samples, &mut records);
+        assert_eq!(answer.number, 0, "the samples are good");
+        records.chunks(RECORD).take(answer.count).map(line).collect()
+    }
+
+    /// Writes bytes from the start address on, in the settings now set.
+    pub fn write(&mut self, start: u16, data: &[u8]) -> Vec<String> {
+        let samples = self.samples_of(0, start, data.len(), data);
+        self.read(&samples)
+    }
+
+    /// Reads one register and gives the due byte.
+    pub fn due(&mut self, address: u16) -> u8 {
+        let samples = self.samples_of(1, address, 1, &[]);
+        let lines = self.read(&samples);
+        u8::from_str_radix(&lines[0][7..9], 16).expect("the due byte is in hex digits")
+    }
+
+    fn samples_of(&self, direction: u64, start: u16, count: usize, data: &[u8]) -> Vec<u8> {
+        let named = |i: usize| u64::from(self.session.settings.has(ORDERED[i])) << i;
+        let order = Order {
+            direction,
+            settings: named(0) + named(1) + named(2),
+            start: u64::from(start),
+            count: count as u64,
+            data,
+        };
+        sent(&order)
+    }
+}
+
+/// The samples of an order that nothing refuses.
+pub fn sent(order: &Order) -> Vec<u8> {
+    let mut samples = vec![0xEE; 48_003];
+    let answer = send(order, &mut samples);
+    assert_eq!(answer.number, 0, "the order is good");
+    samples.truncate(answer.count);
+    samples
+}
+
+/// The settings that agree with an order's settings number.
+pub fn settings_of(number: u64) -> Settings {
+    let named = (0..3).filter(|i| number >> i & 1 == 1);
+    named.fold(Settings::NONE, |settings, i| settings.with(ORDERED[i]))
+}
+
+/// A record as document 01 prints it.
+pub fn line(record: &[u8]) -> String {
+    let letter = match record[0] {
+        1 => 'W',
+        2 => 'R',
+        3 => 'C',
+        kind => panic!("no record has kind {kind}"),
+    };
+    let address = u16::from_be_bytes([record[1], record[2]]);
+    format!("{letter} {address:04X} {:02X} {:02X} {:X}", record[3], record[4], record[5])
+}

@@ -1,0 +1,15 @@
+//! The rules of document 01 a second time, and inputs to try them on.
+//!
+//! [`second`] is written from the document alone, without a look at the
+//! definitions that the verified programs are proved against: where the two
+//! agree on thousands of inputs, a slip in reading the document would have to
+//! have been made twice. [`generate`] makes those inputs from a seed.
+//! [`program`] runs busread, and [`chip`] is a register map with its session
+//! and banks, for tests that read a few frames and look at what came of them.
+
+#![deny(warnings, unsafe_code)]
+
+pub mod chip;
+pub mod generate;
+pub mod program;
+pub mod second;

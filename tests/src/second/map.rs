@@ -1,0 +1,106 @@
+//! The register map: its test, and access to the entries of a map that passed.
+
+pub const BLANK: u8 = 0;
+pub const READ_ONLY: u8 = 1;
+pub const PLAIN: u8 = 2;
+pub const BUFFERED: u8 = 3;
+pub const CONTROL: u8 = 4;
+
+/// Length, version and count stand before the entries.
+pub const HEADER: usize = 5;
+const VERSION: u8 = 1;
+/// The registers that the place rules speak of, all below this address.
+const PLACES: usize = 16;
+
+/// A map that passed the test. It refers to the lent bytes and copies none.
+#[derive(Clone, Copy)]
+pub struct RegisterMap<'a> {
+    entries: &'a [[u8; 3]],
+}
+
+/// Number 0 for a good map, else 2 or 3.
+pub fn map_test(bytes: &[u8]) -> u8 {
+    RegisterMap::new(bytes).err().unwrap_or(0)
+}
+
+/// The bytes of the whole map that this length field announces, its own two
+/// included, or `None` if no map has this length.
+pub fn whole_length(length: u16) -> Option<usize> {
+    let length = usize::from(length);
+    let fits = length % 3 == 0 && (16..=8192).contains(&(length / 3).wrapping_sub(1));
+    fits.then_some(2 + length)
+}
+
+impl<'a> RegisterMap<'a> {
+    /// The map in use, or the number that refuses it.
+    pub fn new(bytes: &'a [u8]) -> Result<Self, u8> {
+        let entries = entries_of(bytes).ok_or(2)?;
+        if entries_stand(entries) {
+            Ok(RegisterMap { entries })
+        } else {
+            Err(3)
+        }
+    }
+
+    pub fn count(&self) -> usize {
+        self.entries.len()
+    }
+
+    /// Kind, mask and default of the register, if the map goes that far.
+    pub fn entry(&self, address: u16) -> Option<[u8; 3]> {
+        self.entries.get(usize::from(address)).copied()
+    }
+
+    pub fn entries(&self) -> &'a [[u8; 3]] {
+        self.entries
+    }
+}
+
+/// What number 2 looks at: length, version and n, and bytes neither missing
+/// nor left over.
+fn entries_of(bytes: &[u8]) -> Option<&[[u8; 3]]> {
+    if bytes.len() < HEADER {
+        return None;
+    }
+    let length = usize::from(u16::from_be_bytes([bytes[0], bytes[1]]));
+    let count = usize::from(u16::from_be_bytes([bytes[3], bytes[4]]));
+    let header_stands = bytes[2] == VERSION
+        && (16..=8192).contains(&count)
+        && length == 3 + 3 * count
+        && bytes.len() == 2 + length;
+    header_stands.then(|| bytes[HEADER..].as_chunks().0)
+}
+
+/// What number 3 looks at: the rule of each entry, and what each place asks.
+fn entries_stand(entries: &[[u8; 3]]) -> bool {
+    let (places, rest) = entries.split_at(PLACES);
+    let product = u16::from_be_bytes([places[5][2], places[4][2]]);
+    places
+        .iter()
+        .enumerate()
+        .all(|(address, &entry)| entry_stands(entry) && place_stands(address, entry))
+        && product != 0x0000
+        && product != 0xFFFF
+        && rest.iter().all(|&entry| entry_stands(entry) && entry[0] != CONTROL)
+}
+
+fn entry_stands([kind, mask, default]: [u8; 3]) -> bool {
+    match kind {
+        BLANK | CONTROL => mask == 0 && default == 0,
+        READ_ONLY => mask == 0,
+        PLAIN | BUFFERED => true,
+        _ => false,
+    }
+}
+
+fn place_stands(address: usize, [kind, mask, default]: [u8; 3]) -> bool {
+    match address {
+        0x0000 | 0x0001 | 0x000F => kind == CONTROL,
+        0x0003..=0x0006 | 0x000B => kind == READ_ONLY,
+        0x0007 | 0x000E => kind == BLANK,
+        0x000A => kind == PLAIN && mask == 0xFF,
+        0x000C => kind == READ_ONLY && default == 0x56,
+        0x000D => kind == READ_ONLY && default == 0x04,
+        _ => kind != CONTROL,
+    }
+}

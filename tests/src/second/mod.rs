@@ -1,0 +1,38 @@
+//! A second implementation of document 01, plain and fast: one pass over the
+//! samples, nothing allocated while reading.
+//!
+//! | file | section of document 01 |
+//! |---|---|
+//! | `map` | The map |
+//! | `session` | Registers and session; Samples and edges |
+//! | `settings` | What a whole byte does: 0x0000 and 0x0001 |
+//! | `registers` | What a whole byte does: all else |
+//! | `reader` | Records; Numbers given back, 1 to 6 |
+//! | `sender` | The sender; Numbers given back, 7 to 11 |
+//! | `report` | The bench program |
+
+pub mod map;
+pub mod reader;
+pub mod registers;
+pub mod report;
+pub mod sender;
+pub mod session;
+pub mod settings;
+
+/// What the reader and the sender give back: the number, and how many records
+/// or samples stand at the start of the lent buffer (0 with any refusal).
+#[derive(Clone, Copy, Debug, PartialEq, Eq)]
+pub struct Answer {
+    pub number: u8,
+    pub count: usize,
+}
+
+impl Answer {
+    pub(crate) fn done(count: usize) -> Self {
+        Answer { number: 0, count }
+    }
+
+    pub(crate) fn refused(number: u8) -> Self {
+        Answer { number, count: 0 }
+    }
+}

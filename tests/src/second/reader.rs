@@ -1,0 +1,119 @@
+//! The two calls of the reader: opening, and reading a trace into records.
+
+use super::map::RegisterMap;
+use super::registers::Registers;
+use super::session::{Event, Session};
+use super::settings::Settings;
+use super::Answer;
+
+pub const RECORD: usize = 6;
+const MOST_SAMPLES: usize = 65_536;
+
+pub const WRITE: u8 = 1;
+pub const READ: u8 = 2;
+pub const CUT: u8 = 3;
+
+/// Puts each default in both banks. The opened session is returned always,
+/// beside the number.
+pub fn open(map: &[u8], active: &mut [u8], buffer: &mut [u8]) -> (u8, Session) {
+    let registers = RegisterMap::new(map).and_then(|map| Registers::new(map, active, buffer));
+    let number = match registers {
+        Ok(mut registers) => {
+            registers.put_defaults();
+            0
+        }
+        Err(number) => number,
+    };
+    (number, Session::opened())
+}
+
+/// Reads the samples on from the session. With a refusal (1 to 6) session,
+/// banks and records stay as they were.
+pub fn read(
+    map: &[u8],
+    session: &mut Session,
+    active: &mut [u8],
+    buffer: &mut [u8],
+    samples: &[u8],
+    records: &mut [u8],
+) -> Answer {
+    if !session.is_sound() {
+        return Answer::refused(1);
+    }
+    match RegisterMap::new(map).and_then(|map| Registers::new(map, active, buffer)) {
+        Ok(mut registers) => read_into(&mut registers, session, samples, records),
+        Err(number) => Answer::refused(number),
+    }
+}
+
+/// The same for a caller who has had the map and the banks tested and whose
+/// session is sound: 5 and 6 alone are left to refuse.
+pub(super) fn read_into(
+    registers: &mut Registers,
+    session: &mut Session,
+    samples: &[u8],
+    records: &mut [u8],
+) -> Answer {
+    if samples.len() > MOST_SAMPLES || any_spare_bit(samples) {
+        return Answer::refused(5);
+    }
+    let room = records.len() / RECORD;
+    if room < most_records(samples.len()) && room < count_records(*session, samples) {
+        return Answer::refused(6);
+    }
+    Answer::done(write_records(registers, session, samples, records))
+}
+
+/// No more than these: the first sample may end a piece begun before, and
+/// every further record takes a low clock, a high one and an end at least.
+pub const fn most_records(samples: usize) -> usize {
+    samples.div_ceil(3)
+}
+
+/// Whether a sample has any of bits 4 to 7 set.
+fn any_spare_bit(samples: &[u8]) -> bool {
+    samples.iter().fold(0, |seen, &sample| seen | sample) > 0x0F
+}
+
+fn count_records(mut session: Session, samples: &[u8]) -> usize {
+    let (mut count, mut at) = (0, 0);
+    while session.next_event(samples, &mut at).is_some() {
+        count += 1;
+    }
+    count
+}
+
+fn write_records(
+    registers: &mut Registers,
+    session: &mut Session,
+    samples: &[u8],
+    records: &mut [u8],
+) -> usize {
+    let (mut count, mut at) = (0, 0);
+    while let Some(event) = session.next_event(samples, &mut at) {
+        let record = record_of(event, registers, session.settings);
+        records[RECORD * count..RECORD * (count + 1)].copy_from_slice(&record);
+        count += 1;
+    }
+    count
+}
+
+/// What the event does to the registers, and its record.
+fn record_of(event: Event, registers: &mut Registers, settings: Settings) -> [u8; RECORD] {
+    match event {
+        Event::Written { address, byte } => {
+            let written = registers.write(address, byte, settings);
+            record(WRITE, address, [byte, written.byte, written.effect])
+        }
+        Event::Read { address, byte } => {
+            let due = registers.due(address, settings);
+            record(READ, address, [due, byte, u8::from(due != byte)])
+        }
+        Event::Cut { address, bits, in_data } => record(CUT, address, [bits, u8::from(in_data), 0]),
+    }
+}
+
+fn record(kind: u8, address: u16, rest: [u8; 3]) -> [u8; RECORD] {
+    let [high, low] = address.to_be_bytes();
+    [kind, high, low, rest[0], rest[1], rest[2]]
+}

@@ -1,0 +1,108 @@
+//! The registers in their two stages, and what a whole byte does to them.
+
+use super::map::{RegisterMap, BLANK, BUFFERED, CONTROL, PLAIN, READ_ONLY};
+use super::settings::{asks_soft_reset, Settings, CONFIGURATION_A};
+
+const TRANSFER: u16 = 0x000F;
+
+pub const NO_EFFECT: u8 = 0;
+pub const ACTIVE_WRITTEN: u8 = 1;
+pub const BUFFER_WRITTEN: u8 = 2;
+pub const CONTROL_WRITTEN: u8 = 3;
+pub const TRANSFERRED: u8 = 4;
+pub const SOFT_RESET: u8 = 5;
+
+/// A map in use with its two banks of n bytes each.
+pub struct Registers<'a> {
+    map: RegisterMap<'a>,
+    active: &'a mut [u8],
+    buffer: &'a mut [u8],
+}
+
+/// What a write leaves: the byte of the stage written, or the control reading.
+pub struct Written {
+    pub byte: u8,
+    pub effect: u8,
+}
+
+impl<'a> Registers<'a> {
+    /// The banks are n bytes each, or the number 4 refuses them.
+    pub fn new(
+        map: RegisterMap<'a>,
+        active: &'a mut [u8],
+        buffer: &'a mut [u8],
+    ) -> Result<Self, u8> {
+        if active.len() == map.count() && buffer.len() == map.count() {
+            Ok(Registers { map, active, buffer })
+        } else {
+            Err(4)
+        }
+    }
+
+    /// Opening and soft reset: each default in both banks.
+    pub fn put_defaults(&mut self) {
+        let banks = self.active.iter_mut().zip(self.buffer.iter_mut());
+        for ([_, _, default], (active, buffer)) in self.map.entries().iter().zip(banks) {
+            *active = *default;
+            *buffer = *default;
+        }
+    }
+
+    /// Writes a whole byte. The settings are those after this byte.
+    pub fn write(&mut self, address: u16, v: u8, settings: Settings) -> Written {
+        let at = usize::from(address);
+        match self.map.entry(address) {
+            None | Some([BLANK | READ_ONLY, ..]) => Written { byte: 0, effect: NO_EFFECT },
+            Some([PLAIN, mask, _]) => {
+                self.active[at] = merge(self.active[at], mask, v);
+                Written { byte: self.active[at], effect: ACTIVE_WRITTEN }
+            }
+            Some([BUFFERED, mask, _]) => {
+                self.buffer[at] = merge(self.buffer[at], mask, v);
+                Written { byte: self.buffer[at], effect: BUFFER_WRITTEN }
+            }
+            Some(_) => {
+                let effect = self.write_control(address, v);
+                Written { byte: settings.control_reading(address), effect }
+            }
+        }
+    }
+
+    fn write_control(&mut self, address: u16, v: u8) -> u8 {
+        if address == CONFIGURATION_A && asks_soft_reset(v) {
+            self.put_defaults();
+            SOFT_RESET
+        } else if address == TRANSFER && v & 1 != 0 {
+            self.transfer();
+            TRANSFERRED
+        } else {
+            CONTROL_WRITTEN
+        }
+    }
+
+    /// Every buffered register's active byte takes its buffer byte.
+    fn transfer(&mut self) {
+        let banks = self.active.iter_mut().zip(self.buffer.iter());
+        for ([kind, ..], (active, buffer)) in self.map.entries().iter().zip(banks) {
+            if *kind == BUFFERED {
+                *active = *buffer;
+            }
+        }
+    }
+
+    /// The byte that a read is due.
+    pub fn due(&self, address: u16, settings: Settings) -> u8 {
+        let at = usize::from(address);
+        match self.map.entry(address) {
+            None | Some([BLANK, ..]) => 0,
+            Some([CONTROL, ..]) => settings.control_reading(address),
+            Some([BUFFERED, ..]) if settings.has(Settings::BUFFER_READBACK) => self.buffer[at],
+            Some(_) => self.active[at],
+        }
+    }
+}
+
+/// The new bits where the mask has ones, the old ones elsewhere.
+fn merge(old: u8, mask: u8, new: u8) -> u8 {
+    old & !mask | new & mask
+}

@@ -1,0 +1,112 @@
+//! The text that `busread` prints for a map with the samples after it.
+
+use std::io::{self, Read, Write};
+
+use super::map::{whole_length, RegisterMap};
+use super::reader::{self, most_records, RECORD};
+use super::registers::Registers;
+use super::session::Session;
+
+pub const PIECE: usize = 4_096;
+const LARGEST_COUNT: usize = 8_192;
+const LARGEST_MAP: usize = 24_581;
+/// One record as a line: `W 000A 3C 3C 1` and its end.
+const LINE: usize = 15;
+
+/// The text for a whole input.
+pub fn report(input: &[u8]) -> Vec<u8> {
+    let mut text = Vec::new();
+    report_to(input, &mut text).expect("memory is read and written without fail");
+    text
+}
+
+/// The same from an input that arrives to an output that is written on the
+/// way, piece by piece. An input error isn't the end of the trace: it is given
+/// back, and no count line is written.
+pub fn report_to(mut input: impl Read, mut output: impl Write) -> io::Result<()> {
+    let mut map = [0; LARGEST_MAP];
+    let length = read_map(&mut input, &mut map)?;
+    let map = match RegisterMap::new(&map[..length]) {
+        Ok(map) => map,
+        Err(number) => return writeln!(output, "refused {number}"),
+    };
+    writeln!(output, "map {}", map.count())?;
+    let (mut active, mut buffer) = ([0; LARGEST_COUNT], [0; LARGEST_COUNT]);
+    let mut registers = Registers::new(map, &mut active[..map.count()], &mut buffer[..map.count()])
+        .expect("the banks were cut to the count");
+    registers.put_defaults();
+    report_trace(registers, input, output)
+}
+
+/// Lines of the samples up to the end, and the count line or the refusal.
+fn report_trace(
+    mut registers: Registers,
+    mut input: impl Read,
+    mut output: impl Write,
+) -> io::Result<()> {
+    let mut session = Session::opened();
+    let mut samples = [0; PIECE];
+    let mut records = [0; RECORD * most_records(PIECE)];
+    let mut text = [0; LINE * most_records(PIECE)];
+    let (mut record_count, mut sample_count) = (0u64, 0u64);
+    loop {
+        let length = fill(&mut input, &mut samples)?;
+        let answer =
+            reader::read_into(&mut registers, &mut session, &samples[..length], &mut records);
+        if answer.number != 0 {
+            return writeln!(output, "refused {}", answer.number);
+        }
+        output.write_all(lines(&records[..RECORD * answer.count], &mut text))?;
+        record_count += answer.count as u64;
+        sample_count += length as u64;
+        if length < PIECE {
+            return writeln!(output, "records {record_count} samples {sample_count}");
+        }
+    }
+}
+
+/// Reads the map that the length field announces, and gives how many bytes came.
+/// A field that no map has, or an input that ends early, leaves fewer bytes than
+/// a map has, which the map test then refuses.
+fn read_map(input: &mut impl Read, map: &mut [u8]) -> io::Result<usize> {
+    let start = fill(input, &mut map[..2])?;
+    match whole_length(u16::from_be_bytes([map[0], map[1]])) {
+        Some(whole) => Ok(start + fill(input, &mut map[start..whole])?),
+        None => Ok(start),
+    }
+}
+
+/// Reads until the space is full or the input ends, however small the portions
+/// in which it arrives.
+fn fill(input: &mut impl Read, space: &mut [u8]) -> io::Result<usize> {
+    let mut length = 0;
+    while length < space.len() {
+        match input.read(&mut space[length..]) {
+            Ok(0) => break,
+            Ok(more) => length += more,
+            Err(error) if error.kind() == io::ErrorKind::Interrupted => {}
+            Err(error) => return Err(error),
+        }
+    }
+    Ok(length)
+}
+
+/// A line for each record, put at the start of the text.
+fn lines<'a>(records: &[u8], text: &'a mut [u8]) -> &'a [u8] {
+    let (records, _) = records.as_chunks::<RECORD>();
+    for (record, line) in records.iter().zip(text.chunks_exact_mut(LINE)) {
+        write_line(record, line.try_into().expect("chunks have the length of a line"));
+    }
+    &text[..LINE * records.len()]
+}
+
+fn write_line(&[kind, high, low, third, fourth, fifth]: &[u8; RECORD], line: &mut [u8; LINE]) {
+    const KINDS: &[u8; 4] = b"?WRC";
+    const DIGITS: &[u8; 16] = b"0123456789ABCDEF";
+    let digits = |byte: u8| [DIGITS[usize::from(byte >> 4)], DIGITS[usize::from(byte & 0x0F)]];
+    let ([a, b], [c, d]) = (digits(high), digits(low));
+    let ([e, f], [g, h]) = (digits(third), digits(fourth));
+    let letter = KINDS[usize::from(kind)];
+    let last = DIGITS[usize::from(fifth)];
+    *line = [letter, b' ', a, b, c, d, b' ', e, f, b' ', g, h, b' ', last, b'\n'];
+}

@@ -1,0 +1,88 @@
+//! The six settings, as the registers 0x0000 and 0x0001 hold and show them.
+
+pub const CONFIGURATION_A: u16 = 0x0000;
+pub const CONFIGURATION_B: u16 = 0x0001;
+
+/// A set of settings. Only the first four are ever taken in use.
+#[derive(Clone, Copy, Debug, Default, PartialEq, Eq)]
+pub struct Settings(u8);
+
+/// Settings with their bits in a register: any of the bits sets the setting,
+/// and the setting shows on all of them.
+type Layout = [(Settings, u8); 3];
+
+const LAYOUT_A: Layout = [
+    (Settings::LSB_FIRST, 0b0100_0010),
+    (Settings::ASCENDING, 0b0010_0100),
+    (Settings::SDO_ACTIVE, 0b0001_1000),
+];
+const LAYOUT_B: Layout = [
+    (Settings::SINGLE_INSTRUCTION, 0b1000_0000),
+    (Settings::BUFFER_READBACK, 0b0010_0000),
+    (Settings::SLOW, 0b0001_0000),
+];
+
+impl Settings {
+    pub const NONE: Settings = Settings(0);
+    pub const LSB_FIRST: Settings = Settings(1 << 0);
+    pub const ASCENDING: Settings = Settings(1 << 1);
+    pub const SDO_ACTIVE: Settings = Settings(1 << 2);
+    pub const SINGLE_INSTRUCTION: Settings = Settings(1 << 3);
+    pub const BUFFER_READBACK: Settings = Settings(1 << 4);
+    pub const SLOW: Settings = Settings(1 << 5);
+
+    #[inline(always)]
+    pub fn has(self, one: Settings) -> bool {
+        self.0 & one.0 != 0
+    }
+
+    pub fn with(self, more: Settings) -> Settings {
+        Settings(self.0 | more.0)
+    }
+
+    /// The four that an instruction takes in use.
+    #[inline(always)]
+    pub(super) fn usable(self) -> Settings {
+        Settings(self.0 & 0b001111)
+    }
+
+    /// Those of a register's settings that were set before.
+    fn kept(self, layout: Layout) -> Settings {
+        let kept = layout.iter().filter(|(one, _)| self.has(*one));
+        kept.fold(Settings::NONE, |sum, (one, _)| sum.with(*one))
+    }
+
+    /// Those of a register's settings that a byte written to it sets.
+    fn taken(layout: Layout, v: u8) -> Settings {
+        let taken = layout.iter().filter(|(_, bits)| v & bits != 0);
+        taken.fold(Settings::NONE, |sum, (one, _)| sum.with(*one))
+    }
+
+    fn shown(self, layout: Layout) -> u8 {
+        layout.iter().filter(|(one, _)| self.has(*one)).map(|(_, bits)| bits).sum()
+    }
+
+    /// The settings after a whole byte was written to an address.
+    pub(super) fn after_write(self, address: u16, v: u8) -> Settings {
+        match address {
+            CONFIGURATION_A if asks_soft_reset(v) => Settings::taken(LAYOUT_A, v),
+            CONFIGURATION_A => self.kept(LAYOUT_B).with(Settings::taken(LAYOUT_A, v)),
+            CONFIGURATION_B => self.kept(LAYOUT_A).with(Settings::taken(LAYOUT_B, v)),
+            _ => self,
+        }
+    }
+
+    /// How a control register reads; the transfer register reads 0.
+    pub(super) fn control_reading(self, address: u16) -> u8 {
+        match address {
+            CONFIGURATION_A => self.shown(LAYOUT_A),
+            CONFIGURATION_B => self.shown(LAYOUT_B),
+            _ => 0,
+        }
+    }
+}
+
+/// Whether this byte, written to 0x0000, starts a soft reset.
+pub(super) fn asks_soft_reset(v: u8) -> bool {
+    v & 0b1000_0001 != 0
+}

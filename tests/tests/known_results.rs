@@ -1,0 +1,202 @@
+//! The known results of document 01, by the second implementation and, where
+//! the program can show them, by busread.
+
+use couplingnut_tests::chip::{sent, Chip};
+use couplingnut_tests::generate::maps::{map_of, set_entry, simple_map};
+use couplingnut_tests::program::{busread, output_of, Feed};
+use couplingnut_tests::second::map::map_test;
+use couplingnut_tests::second::report::report;
+use couplingnut_tests::second::sender::{send, Order};
+use couplingnut_tests::second::session::next_address;
+use couplingnut_tests::second::Answer;
+
+/// The samples that make these bits one frame: "for each bit b, 4b then 4b + 2".
+fn frame(bits: &str) -> Vec<u8> {
+    let clocked = bits.chars().filter_map(|bit| bit.to_digit(2)).flat_map(|b| {
+        let b = b as u8;
+        [4 * b, 4 * b + 2]
+    });
+    [0x00].into_iter().chain(clocked).chain([0x00, 0x01]).collect()
+}
+
+/// A streaming write in the settings after opening.
+fn write_of(start: u64, data: &[u8]) -> Vec<u8> {
+    sent(&Order { direction: 0, settings: 0, start, count: data.len() as u64, data })
+}
+
+/// A read of one byte in the settings after opening.
+fn read_of(start: u64) -> Vec<u8> {
+    sent(&Order { direction: 1, settings: 0, start, count: 1, data: &[] })
+}
+
+/// Both programs print this text for this map and these samples.
+fn assert_text(map: &[u8], samples: &[u8], expected: &str) {
+    let input = [map, samples].concat();
+    let text = |bytes: Vec<u8>| String::from_utf8(bytes).expect("the text is ASCII");
+    assert_eq!(text(report(&input)), expected, "by the second implementation");
+    let ended = output_of(&mut busread(), &input, Feed::Pipe);
+    assert_eq!(text(ended.output), expected, "by busread");
+}
+
+#[test]
+fn the_printed_case() {
+    let samples = write_of(0x000A, &[0x3C]);
+    assert_eq!(samples.len(), 51);
+    assert_text(&simple_map(16), &samples, "map 16\nW 000A 3C 3C 1\nrecords 1 samples 51\n");
+}
+
+#[test]
+fn smallest_and_largest_map() {
+    let smallest = simple_map(16);
+    assert_eq!((&smallest[..2], smallest.len()), (&[0x00, 0x33][..], 53));
+    assert_eq!(map_test(&smallest), 0);
+    assert_text(&smallest, &[], "map 16\nrecords 0 samples 0\n");
+
+    let largest = simple_map(8_192);
+    assert_eq!((&largest[..2], largest.len()), (&[0x60, 0x03][..], 24_581));
+    assert_eq!(map_test(&largest), 0);
+    assert_text(&largest, &[], "map 8192\nrecords 0 samples 0\n");
+}
+
+#[test]
+fn fifteen_registers_and_8_193_are_refused() {
+    let entries = simple_map(16)[5..50].as_chunks().0.to_vec();
+    assert_eq!(entries.len(), 15);
+    for map in [map_of(&entries), simple_map(8_193)] {
+        assert_eq!(map_test(&map), 2);
+        assert_text(&map, &[], "refused 2\n");
+    }
+}
+
+#[test]
+fn bits_outside_the_mask_keep_their_value() {
+    let mut map = simple_map(17);
+    set_entry(&mut map, 0x0010, [2, 0x0F, 0xA5]);
+    let mut chip = Chip::opened(&map);
+    assert_eq!(chip.write(0x0010, &[0x3C]), ["W 0010 3C AC 1"]);
+    assert_eq!(chip.active[0x0010], 0xAC);
+    let samples = write_of(0x0010, &[0x3C]);
+    assert_text(&map, &samples, "map 17\nW 0010 3C AC 1\nrecords 1 samples 51\n");
+}
+
+#[test]
+fn scratch_write_bit_by_bit() {
+    let highest_first = frame("0000000000001010 00110101");
+    assert_eq!(write_of(0x000A, &[0x35]), highest_first);
+    let map = simple_map(16);
+    assert_text(&map, &highest_first, "map 16\nW 000A 35 35 1\nrecords 1 samples 51\n");
+
+    let lowest_first = frame("0101000000000000 10101100");
+    let order = Order { direction: 0, settings: 1, start: 0x000A, count: 1, data: &[0x35] };
+    assert_eq!(sent(&order), lowest_first);
+    let samples = [write_of(0x0000, &[0x42]), lowest_first].concat();
+    let expected = "map 16\nW 0000 42 42 3\nW 000A 35 35 1\nrecords 2 samples 102\n";
+    assert_text(&map, &samples, expected);
+}
+
+#[test]
+fn a_write_cut_off() {
+    let map = simple_map(16);
+    let whole = write_of(0x000A, &[0x3C]);
+    for (kept, line) in
+        [(47, "C 000A 07 01 0\n"), (31, "C 0000 0F 00 0\n"), (33, ""), (49, "W 000A 3C 3C 1\n")]
+    {
+        let samples = [&whole[..kept], &[0x01]].concat();
+        let (records, length) = (line.lines().count(), samples.len());
+        let expected = format!("map 16\n{line}records {records} samples {length}\n");
+        assert_text(&map, &samples, &expected);
+    }
+}
+
+#[test]
+fn writes_to_0x0000() {
+    for (v, line) in [(0x40, "W 0000 40 42 3"), (0x81, "W 0000 81 00 5")] {
+        let samples = write_of(0x0000, &[v]);
+        assert_text(&simple_map(16), &samples, &format!("map 16\n{line}\nrecords 1 samples 51\n"));
+    }
+}
+
+#[test]
+fn addresses_wrap() {
+    assert_eq!(next_address(0x0000, false), 0x7FFF);
+    assert_eq!(next_address(0x7FFF, true), 0x0000);
+
+    let map = simple_map(16);
+    let down = write_of(0x0000, &[0x00, 0x11]);
+    let expected = "map 16\nW 0000 00 00 3\nW 7FFF 11 00 0\nrecords 2 samples 67\n";
+    assert_text(&map, &down, expected);
+
+    let order = Order { direction: 0, settings: 2, start: 0x7FFF, count: 2, data: &[0x22, 0x24] };
+    let up = [write_of(0x0000, &[0x24]), sent(&order)].concat();
+    let expected =
+        "map 16\nW 0000 24 24 3\nW 7FFF 22 00 0\nW 0000 24 24 3\nrecords 3 samples 118\n";
+    assert_text(&map, &up, expected);
+}
+
+#[test]
+fn a_buffered_register_waits_for_the_transfer() {
+    let mut map = simple_map(17);
+    set_entry(&mut map, 0x0010, [3, 0xFF, 0x11]);
+
+    let mut chip = Chip::opened(&map);
+    chip.write(0x0010, &[0x22]);
+    assert_eq!(chip.due(0x0010), 0x11);
+    chip.write(0x0001, &[0x20]);
+    assert_eq!(chip.due(0x0010), 0x22);
+    assert_eq!(chip.active[0x0010], 0x11);
+    chip.write(0x000F, &[0x01]);
+    assert_eq!(chip.active[0x0010], 0x22);
+
+    let steps = [
+        write_of(0x0010, &[0x22]),
+        read_of(0x0010),
+        write_of(0x0001, &[0x20]),
+        read_of(0x0010),
+        write_of(0x000F, &[0x01]),
+        write_of(0x0001, &[0x00]),
+        read_of(0x0010),
+    ];
+    let lines = [
+        "map 17",
+        "W 0010 22 22 2",
+        "R 0010 11 00 1",
+        "W 0001 20 20 3",
+        "R 0010 22 00 1",
+        "W 000F 01 00 4",
+        "W 0001 00 00 3",
+        "R 0010 22 00 1",
+        "records 7 samples 357\n",
+    ];
+    assert_text(&map, &steps.concat(), &lines.join("\n"));
+}
+
+#[test]
+fn a_thousand_bytes() {
+    let mut outgoing = vec![0; 48_003];
+    let data = vec![0x5A; 1_000];
+    for (settings, samples) in [(0, 16_035), (4, 48_003)] {
+        let order = Order { direction: 0, settings, start: 0x4000, count: 1_000, data: &data };
+        assert_eq!(send(&order, &mut outgoing), Answer { number: 0, count: samples });
+    }
+}
+
+#[test]
+fn empty_and_long_traces() {
+    let mut chip = Chip::opened(&simple_map(16));
+    assert_eq!(chip.call(&[], &mut []), Answer { number: 0, count: 0 });
+    let at_rest = vec![0x01; 65_537];
+    assert_eq!(chip.call(&at_rest[1..], &mut []), Answer { number: 0, count: 0 });
+    assert_eq!(chip.call(&at_rest, &mut []), Answer { number: 5, count: 0 });
+    // The program goes piece by piece, and so has no limit.
+    assert_text(&simple_map(16), &at_rest, "map 16\nrecords 0 samples 65537\n");
+}
+
+/// 4,096 samples never give more than 1,366 records, and can give as many.
+#[test]
+fn the_densest_piece() {
+    let mut chip = Chip::opened(&simple_map(16));
+    chip.read(&[0x00, 0x02]);
+    let densest: Vec<u8> = [0x01, 0x00, 0x02].into_iter().cycle().take(4_096).collect();
+    let mut records = vec![0; 8_400];
+    assert_eq!(chip.call(&densest, &mut records), Answer { number: 0, count: 1_366 });
+}
