@@ -1,0 +1,96 @@
+-- When a call is done: what a run leaves is sound and fits the map, and the samples of an order are good and few.
+use Prim.Native.Nat.{ℕ, _+_, _*_, _≤_}
+use mathlib.Core.Path.{_≡_, refl, sym, ap, _∙_}
+use mathlib.Core.Bool.{Bool, true, false, cond, _&&_, and-assoc}
+use mathlib.Core.List.{List, [], _∷_, _++_}
+use native.Mathlib.Omega.{arith}
+use lib.Dec.{leb}
+use lib.ListN.{length}
+use borrow.Author.Tests.{le-leb, eq-eqb}
+use Rattle.bits.proofs.Cases.{and-left, and-right}
+use Rattle.regmap.specs.Format.{countOf}
+use Rattle.regmap.specs.MapTest.{mapNumber}
+use Rattle.session.specs.State.{soundSession}
+use Rattle.session.specs.Event.{eventOf}
+use Rattle.session.proofs.Laws.{sound-step}
+use Rattle.registers.specs.Banks.{Banks, Mapped}
+use Rattle.reader.specs.Reading.{World, worldAfter, runOf, recordCount, samplesGood}
+use Rattle.reader.specs.Calls.{banksFit, readNumber}
+use Rattle.reader.proofs.Laws.{mapped-after}
+use Rattle.reader.proofs.Refusals.{fits-mapped}
+use Rattle.sender.specs.Order.{Order, singleInstruction}
+use Rattle.sender.specs.Samples.{clocked, orderBits, samplesOf}
+use Rattle.sender.proofs.Laws.{admitted}
+use Rattle.guarantees.specs.AtRest.{AtRest, Accepted}
+use Rattle.guarantees.proofs.Counts.{sample-count}
+
+-- what a call asks of a map, a session and its banks
+pub record Sound (m : List ℕ) (w : World) : Type 0 where
+  pub session-sound : soundSession (w .session) ≡ true
+  pub mapped : Mapped m (w .banks)
+
+pub run-sound : (m : List ℕ) (w : World) (xs : List ℕ) → Sound m w → Sound m (runOf m w xs)
+unfolding runOf
+run-sound m w [] h = h
+run-sound m w (x ∷ xs) h =
+    run-sound m (worldAfter m w x) xs
+    (record {
+      session-sound = sound-step (w .session) x (h .session-sound);
+      mapped = mapped-after m (w .banks) (eventOf (w .session) x) (h .mapped);
+    })
+
+-- the bank sizes, as the reader tests them
+mapped-fits : (m : List ℕ) (b : Banks) → Mapped m b → banksFit m b ≡ true
+mapped-fits m b h =
+    simp (eq-eqb (length (b .active)) (countOf m) (h .active-size), eq-eqb (length (b .buffer)) (countOf m) (h .buffer-size))
+
+-- the reader gives no number: a call is done on its conditions
+pub no-refusal :
+    (m : List ℕ) (w : World) (xs : List ℕ) (room : ℕ) → mapNumber m ≡ 0 → Sound m w → samplesGood xs ≡ true
+    → length xs ≤ 65536 → 6 * recordCount (w .session) xs ≤ room → readNumber m w xs room ≡ 0
+unfolding readNumber
+no-refusal m w xs room good h fine few enough =
+    rw (
+      h .session-sound,
+      good,
+      mapped-fits m (w .banks) (h .mapped),
+      fine,
+      le-leb (length xs) 65536 few,
+      le-leb (6 * recordCount (w .session) xs) room enough,
+    )
+
+-- a session at rest, with its banks
+pub rest-sound : (m : List ℕ) (w : World) (o : Order) → AtRest m w o → Sound m w
+rest-sound m w o rest =
+    record { session-sound = rest .sound; mapped = fits-mapped m (w .banks) (rest .good-map) (rest .bank-sizes) }
+
+-- ---- the samples are good, and few
+
+pub good-append : (xs ys : List ℕ) → samplesGood (xs ++ ys) ≡ (samplesGood xs && samplesGood ys)
+unfolding samplesGood
+good-append [] ys = refl
+good-append (x ∷ xs) ys =
+    ap (λ (t : Bool). leb x 15 && t) (good-append xs ys) ∙ sym (and-assoc (leb x 15) (samplesGood xs) (samplesGood ys))
+
+good-clocked : (bs : List Bool) (more : List ℕ) → samplesGood more ≡ true → samplesGood (clocked bs ++ more) ≡ true
+unfolding clocked samplesGood
+good-clocked [] more h = h
+good-clocked (true ∷ bs) more h = good-clocked bs more h
+good-clocked (false ∷ bs) more h = good-clocked bs more h
+
+pub good-samples : (o : Order) → samplesGood (samplesOf o) ≡ true
+unfolding samplesOf samplesGood
+good-samples o = good-clocked (orderBits o) (0x00 ∷ 0x01 ∷ []) refl
+
+pub good-part : (xs ys zs : List ℕ) → xs ++ ys ≡ zs → samplesGood zs ≡ true → (samplesGood xs ≡ true) × (samplesGood ys ≡ true)
+good-part xs ys zs e h =
+    let both : (samplesGood xs && samplesGood ys) ≡ true = sym (good-append xs ys) ∙ ap samplesGood e ∙ h in
+    (and-left (samplesGood xs) (samplesGood ys) both, and-right (samplesGood xs) (samplesGood ys) both)
+
+few-by : (single : Bool) (k : ℕ) → k ≤ 1000 → cond single (3 + 48 * k) (35 + 16 * k) ≤ 48003
+few-by true k h = omega arith
+few-by false k h = omega arith
+
+pub few-samples : (o : Order) (room : ℕ) → Accepted o room → length (samplesOf o) ≤ 48003
+few-samples o room accepted =
+    omega (arith, sample-count o room accepted, few-by (singleInstruction o) (o .count) (admitted o room (accepted .number) .count .most))

@@ -1,0 +1,48 @@
+-- The starred results: a good map's length follows from its count by the map test; all the others compute.
+use mathlib.Core.Path.{refl, ap, _∙_}
+use Prim.Native.Nat.{ℕ, _+_, _*_}
+use Rattle.bits.specs.Bits.{bitAt, merged}
+use Rattle.bits.specs.Tests.{every}
+use Rattle.regmap.specs.Format.{countOf, entryAt}
+use Rattle.regmap.specs.MapTest.{kindRule, placeRule, entryGood, entriesGood, mapNumber}
+use Rattle.regmap.proofs.Laws.{good-length, good-form}
+use Rattle.session.specs.Settings.{settingsAfter, controlReading}
+use Rattle.session.specs.Step.{withInstructionBit, withDataBit, stepOf}
+use Rattle.session.specs.Event.{bitEvent, abortEvent, eventOf}
+use Rattle.registers.specs.Banks.{defaultsFrom, defaultBanks, transferFrom, transferred}
+use Rattle.registers.specs.Write.{controlBanks, writeBanks, writtenOf}
+use Rattle.registers.specs.Read.{dueByte}
+use Rattle.reader.specs.Records.{recordOf}
+use Rattle.reader.specs.Reading.{banksAfter, recordsOf}
+use Rattle.sender.specs.Order.{runFrom}
+use Rattle.sender.specs.Samples.{highFirst, lowFirst, bitsOf, byteBits, runBits, orderBits, clocked, samplesOf}
+use Rattle.guarantees.specs.Known.{KnownResults}
+
+pub known-results : KnownResults
+unfolding bitAt merged every countOf entryAt kindRule placeRule entryGood entriesGood mapNumber
+    settingsAfter controlReading withInstructionBit withDataBit stepOf bitEvent abortEvent eventOf
+    defaultsFrom defaultBanks transferFrom transferred controlBanks writeBanks writtenOf dueByte recordOf banksAfter recordsOf
+    runFrom highFirst lowFirst bitsOf byteBits runBits orderBits clocked samplesOf
+known-results = record {
+  length-16 = λ m good n. (good-length m good ∙ ap (λ (k : ℕ). 3 + 3 * k) n, good-form m good ∙ ap (λ (k : ℕ). 5 + 3 * k) n);
+  length-8192 = λ m good n. good-length m good ∙ ap (λ (k : ℕ). 3 + 3 * k) n;
+  good-16 = (refl, refl);
+  good-17 = (refl, refl);
+  merge = refl;
+  bits-high = refl;
+  bits-low = refl;
+  samples-51 = refl;
+  stopped-47 = refl;
+  stopped-31 = refl;
+  stopped-33 = refl;
+  stopped-49 = refl;
+  control-40 = refl;
+  control-81 = refl;
+  wrap-down = refl;
+  wrap-up = refl;
+  due-11 = refl;
+  due-22 = refl;
+  active-22 = refl;
+  thousand = refl;
+  thousand-single = refl;
+}

@@ -1,0 +1,15 @@
+pub mod BitsBack
+pub mod Buffered
+pub mod Calls
+pub mod Counts
+pub mod Done
+pub mod Events
+pub mod Fit
+pub mod InForce
+pub mod Known
+pub mod Lists
+pub mod Orders
+pub mod Pieces
+pub mod ReadBack
+pub mod Runs
+pub mod StoppedRun

@@ -1,0 +1,95 @@
+-- Document 01, "Known results": every starred line, as one table.
+use Prim.Native.Nat.{ℕ, zero, suc, _+_, _*_}
+use mathlib.Core.Path.{_≡_}
+use mathlib.Core.Bool.{Bool, true, false}
+use mathlib.Core.List.{List, [], _∷_, _++_}
+use lib.ListN.{length, take, replicate, getD}
+use Rattle.bits.specs.Bits.{merged}
+use Rattle.regmap.specs.Format.{lengthOf, countOf}
+use Rattle.regmap.specs.MapTest.{mapNumber}
+use Rattle.session.specs.declared.Settings.{Settings}
+use Rattle.session.specs.declared.Session.{Session}
+use Rattle.session.specs.State.{openedSession}
+use Rattle.session.specs.Settings.{settingsAfter}
+use Rattle.session.specs.Step.{nextAddress}
+use Rattle.registers.specs.Banks.{Banks, defaultBanks}
+use Rattle.registers.specs.Write.{writeBanks}
+use Rattle.registers.specs.Read.{dueByte}
+use Rattle.reader.specs.Reading.{World, recordsOf}
+use Rattle.sender.specs.Order.{Order}
+use Rattle.sender.specs.Samples.{samplesOf, orderBits}
+use Rattle.guarantees.specs.StoppedRun.{stoppedSamples}
+
+-- a good map of 16 registers: each entry is kind, mask, default
+abbrev pub entries16 : List ℕ
+entries16 =
+    4 ∷ 0 ∷ 0 ∷ 4 ∷ 0 ∷ 0 ∷ 0 ∷ 0 ∷ 0 ∷ 1 ∷ 0 ∷ 0x05 ∷ 1 ∷ 0 ∷ 0x34 ∷ 1 ∷ 0 ∷ 0x12 ∷ 1 ∷ 0 ∷ 0x01 ∷ 0 ∷ 0 ∷ 0
+    ∷ 0 ∷ 0 ∷ 0 ∷ 0 ∷ 0 ∷ 0 ∷ 2 ∷ 0xFF ∷ 0 ∷ 1 ∷ 0 ∷ 0x01 ∷ 1 ∷ 0 ∷ 0x56 ∷ 1 ∷ 0 ∷ 0x04 ∷ 0 ∷ 0 ∷ 0 ∷ 4 ∷ 0 ∷ 0 ∷ []
+
+abbrev pub map16 : List ℕ
+map16 = 0x00 ∷ 0x33 ∷ 1 ∷ 0 ∷ 16 ∷ entries16
+
+-- the same with a buffered register at 0x0010, mask 0xFF, default 0x11
+abbrev pub map17 : List ℕ
+map17 = 0x00 ∷ 0x36 ∷ 1 ∷ 0 ∷ 17 ∷ (entries16 ++ (3 ∷ 0xFF ∷ 0x11 ∷ []))
+
+-- a streaming write of one byte; 1 as the settings number is LSB first
+abbrev pub writeOne : ℕ → ℕ → ℕ → Order
+writeOne settings a v = record { direction = 0; settings = settings; start = a; count = 1; bytes = v ∷ [] }
+
+-- an ascending write of 1,000 bytes: settings number 2, or 6 with single instruction
+abbrev pub writeThousand : ℕ → Order
+writeThousand settings = record { direction = 0; settings = settings; start = 0x0010; count = 1000; bytes = replicate 1000 0x07 }
+
+-- a map after opening
+abbrev pub opened : List ℕ → World
+opened m = record { session = openedSession; banks = defaultBanks m }
+
+-- the records of some samples after opening
+abbrev pub recordsAfterOpening : List ℕ → List ℕ → List ℕ
+recordsAfterOpening m xs = recordsOf m (opened m) xs
+
+-- the settings after 0x20 is written to 0x0001, and the banks after 0x22 is written to 0x0010
+abbrev pub withReadback : Settings
+withReadback = settingsAfter (openedSession .settings) 0x0001 0x20
+
+abbrev pub with22 : Banks
+with22 = writeBanks map17 (defaultBanks map17) 0x0010 0x22
+
+abbrev pub bitsOfDigits : List ℕ → List Bool
+bitsOfDigits [] = []
+bitsOfDigits (zero ∷ ds) = false ∷ bitsOfDigits ds
+bitsOfDigits (suc d ∷ ds) = true ∷ bitsOfDigits ds
+
+pub record KnownResults : Type 0 where
+  -- n = 16: length 0x0033, 53 bytes; n = 8,192: length 0x6003
+  pub length-16 : (m : List ℕ) → mapNumber m ≡ 0 → countOf m ≡ 16 → (lengthOf m ≡ 0x0033) × (length m ≡ 53)
+  pub length-8192 : (m : List ℕ) → mapNumber m ≡ 0 → countOf m ≡ 8192 → lengthOf m ≡ 0x6003
+  pub good-16 : (mapNumber map16 ≡ 0) × (countOf map16 ≡ 16)
+  pub good-17 : (mapNumber map17 ≡ 0) × (countOf map17 ≡ 17)
+  -- byte 0xA5, mask 0x0F, write 0x3C: 0xAC
+  pub merge : merged 8 0xA5 0x3C 0x0F ≡ 0xAC
+  -- 0x000A after opening, write 0x35, and the same with LSB first
+  pub bits-high : orderBits (writeOne 0 0x000A 0x35)
+      ≡ bitsOfDigits (0 ∷ 0 ∷ 0 ∷ 0 ∷ 0 ∷ 0 ∷ 0 ∷ 0 ∷ 0 ∷ 0 ∷ 0 ∷ 0 ∷ 1 ∷ 0 ∷ 1 ∷ 0 ∷ 0 ∷ 0 ∷ 1 ∷ 1 ∷ 0 ∷ 1 ∷ 0 ∷ 1 ∷ [])
+  pub bits-low : orderBits (writeOne 1 0x000A 0x35)
+      ≡ bitsOfDigits (0 ∷ 1 ∷ 0 ∷ 1 ∷ 0 ∷ 0 ∷ 0 ∷ 0 ∷ 0 ∷ 0 ∷ 0 ∷ 0 ∷ 0 ∷ 0 ∷ 0 ∷ 0 ∷ 1 ∷ 0 ∷ 1 ∷ 0 ∷ 1 ∷ 1 ∷ 0 ∷ 0 ∷ [])
+  -- the write of 0x3C to 0x000A, stopped after 47, 31, 33 and 49 of its 51 samples
+  pub samples-51 : length (samplesOf (writeOne 0 0x000A 0x3C)) ≡ 51
+  pub stopped-47 : recordsAfterOpening map16 (stoppedSamples (writeOne 0 0x000A 0x3C) 47 0x01) ≡ 3 ∷ 0x00 ∷ 0x0A ∷ 0x07 ∷ 0x01 ∷ 0 ∷ []
+  pub stopped-31 : recordsAfterOpening map16 (stoppedSamples (writeOne 0 0x000A 0x3C) 31 0x01) ≡ 3 ∷ 0x00 ∷ 0x00 ∷ 0x0F ∷ 0x00 ∷ 0 ∷ []
+  pub stopped-33 : recordsAfterOpening map16 (stoppedSamples (writeOne 0 0x000A 0x3C) 33 0x01) ≡ []
+  pub stopped-49 : recordsAfterOpening map16 (stoppedSamples (writeOne 0 0x000A 0x3C) 49 0x01) ≡ 1 ∷ 0x00 ∷ 0x0A ∷ 0x3C ∷ 0x3C ∷ 1 ∷ []
+  -- 0x40 to 0x0000, and 0x81
+  pub control-40 : recordsAfterOpening map16 (samplesOf (writeOne 0 0x0000 0x40)) ≡ 1 ∷ 0x00 ∷ 0x00 ∷ 0x40 ∷ 0x42 ∷ 3 ∷ []
+  pub control-81 : recordsAfterOpening map16 (samplesOf (writeOne 0 0x0000 0x81)) ≡ 1 ∷ 0x00 ∷ 0x00 ∷ 0x81 ∷ 0x00 ∷ 5 ∷ []
+  -- descending from 0x0000, ascending from 0x7FFF
+  pub wrap-down : nextAddress false 0x0000 ≡ 0x7FFF
+  pub wrap-up : nextAddress true 0x7FFF ≡ 0x0000
+  -- the buffered register: after the write of 0x22 due 0x11; with buffer readback due 0x22; after the transfer active 0x22
+  pub due-11 : dueByte map17 with22 (openedSession .settings) 0x0010 ≡ 0x11
+  pub due-22 : dueByte map17 with22 withReadback 0x0010 ≡ 0x22
+  pub active-22 : getD (writeBanks map17 with22 0x000F 0x01 .active) 0x0010 0 ≡ 0x22
+  -- k = 1,000: 16,035 samples, or 48,003
+  pub thousand : length (samplesOf (writeThousand 2)) ≡ 16035
+  pub thousand-single : length (samplesOf (writeThousand 6)) ≡ 48003

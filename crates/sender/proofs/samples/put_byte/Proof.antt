@@ -1,0 +1,59 @@
+-- `put_byte` meets its contract: its instruction and its data bits one after the other, or the data bits alone.
+use native.Mathlib.Omega.{arith}
+use Rattle.sender.proofs.Putting.{put-both}
+use Rattle.sender.proofs.Parts.{after-bits, byte-single, byte-streaming, length-single, length-streaming}
+use borrow.Author.Needs.{needs}
+use Rattle.sender.proofs.samples.put_byte.Statement.{statement}
+use Rattle.sender.proofs.samples.put_byte.Tie as tie
+
+instruction-requires : tie.Need-instruction-requires
+instruction-requires c κs = search needs
+
+put-bits-requires : tie.Need-put-bits-requires
+put-bits-requires c κs =
+    let a = c .before .before .before .before .args in
+    omega (arith, length-single (a .run) (a .address) (a .byte) (c .before .before .if1 .taken))
+
+put-bits-requires-2 : tie.Need-put-bits-requires-2
+put-bits-requires-2 c κs =
+    let p = c .before .before .before in
+    let a = p .before .before .before .before .before .args in
+    let first = after-bits (a .run .lsb) 16 (p .before .before .instruction .result) (p .put-bits .ensures) in
+    omega (arith, length-single (a .run) (a .address) (a .byte) (p .before .before .before .if1 .taken), p .put-bits .kept .1 .1 .1 .0)
+
+same-length : tie.Need-same-length
+same-length c = search needs
+
+returns : tie.Need-returns
+returns c =
+    let p = c .before .before .before .before .before .before in
+    let a = p .before .before .before .before .before .args in
+    rw (byte-single (a .run) (a .address) (a .byte) (p .before .before .before .if1 .taken), ← p .before .before .instruction .ensures)
+    (put-both (p .put-bits .ensures) (c .before .before .put-bits2 .ensures))
+
+put-bits-requires-3 : tie.Need-put-bits-requires-3
+put-bits-requires-3 c κs =
+    let a = c .before .before .before .args in
+    omega (arith, length-streaming (a .run) (a .address) (a .byte) (c .before .if1 .left))
+
+same-length-2 : tie.Need-same-length-2
+same-length-2 c = search needs
+
+returns-2 : tie.Need-returns-2
+returns-2 c =
+    let p = c .before .before .before .before in
+    let a = p .before .before .args in
+    rw (byte-streaming (a .run) (a .address) (a .byte) (p .if1 .left)) (c .before .before .put-bits3 .ensures)
+
+pub put-byte-spec : {M : Type 1} → statement M
+put-byte-spec =
+    tie.close
+    (tie.spec
+    instruction-requires
+    put-bits-requires
+    put-bits-requires-2
+    same-length
+    returns
+    put-bits-requires-3
+    same-length-2
+    returns-2)

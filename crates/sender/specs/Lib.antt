@@ -1,0 +1,4 @@
+pub mod Order
+pub mod Samples
+pub mod Calls
+pub mod Run

@@ -1,0 +1,35 @@
+-- What the code hands on: how a run goes, the samples of its parts, and samples put into a buffer.
+use Prim.Native.Nat.{ℕ, _+_}
+use mathlib.Core.Path.{_≡_}
+use mathlib.Core.Bool.{cond}
+use mathlib.Core.List.{List, [], _∷_}
+use lib.ListN.{length}
+use lib.Seq.{sets}
+use Rattle.sender.specs.declared.Run.{Run}
+use Rattle.sender.specs.Order.{Order, isRead, lsbFirst, ascending, singleInstruction, runFrom}
+use Rattle.sender.specs.Samples.{instructionOf, bitsOf, byteBits, runBits, clocked}
+
+-- the direction of an order, and its settings by name
+abbrev pub runOf : Order → Run
+runOf o = record { read = isRead o; lsb = lsbFirst o; ascending = ascending o; single = singleInstruction o }
+
+-- 0x00, and in streaming the instruction before all bytes
+abbrev pub openingSamples : Run → ℕ → List ℕ
+openingSamples r a = 0x00 ∷ clocked (cond (r .single) [] (bitsOf (r .lsb) 16 (instructionOf (r .read) a)))
+
+-- the samples of one byte
+abbrev pub byteSamples : Run → ℕ → ℕ → List ℕ
+byteSamples r a v = clocked (byteBits (r .single) (r .read) (r .lsb) (record { address = a; byte = v }))
+
+-- the samples of bytes from an address on
+abbrev pub runSamples : Run → ℕ → List ℕ → List ℕ
+runSamples r a vs = clocked (runBits (r .single) (r .read) (r .lsb) (runFrom (r .ascending) a vs))
+
+-- 0x00 and 0x01
+abbrev pub closingSamples : List ℕ
+closingSamples = 0x00 ∷ 0x01 ∷ []
+
+-- samples are put into a buffer at a place, with the place after them
+pub record Put (old : List ℕ) (at : ℕ) (samples : List ℕ) (next : ℕ) (new : List ℕ) : Type 0 where
+  pub next-place : next ≡ at + length samples
+  pub buffer : new ≡ sets old at samples

@@ -1,0 +1,66 @@
+// The sender: the samples of one read or write run, from an order, or the number that refuses it.
+ghost use mathlib.Core.Path.{_≡_};
+ghost use mathlib.Core.List.{[]};
+ghost use Prim.Native.Nat.{_≤_};
+ghost use Rattle.sender.specs.Order.{order};
+ghost use Rattle.sender.specs.Calls.{sending, sendOf};
+ghost use Rattle.sender.specs.Run.{runOf};
+
+mod number;
+mod samples;
+
+use bits::bit_at;
+use number::number_of;
+use samples::put_samples;
+
+// What a call of the sender answers: the number, and how many samples it put.
+pub struct Sent {
+    pub number: u8,
+    pub samples: usize,
+}
+
+// How the run of an order goes: its direction, and its settings by name.
+struct Run {
+    read: bool,
+    lsb: bool,
+    ascending: bool,
+    single: bool,
+}
+
+// The run of an order, by its direction and its settings number.
+fn run_of(direction: u64, settings: u64) -> Run
+    requires { ⌜ settings ≤ 7 ⌝ }
+    ensures { λ r. ⌜ r ≡ runOf (order direction settings 0 0 []) ⌝ }
+{
+    let s = settings as u8;
+    Run {
+        read: direction == 1,
+        lsb: bit_at(s, 0),
+        ascending: bit_at(s, 1),
+        single: bit_at(s, 2),
+    }
+}
+
+// Puts the samples of an order at the start of the outgoing buffer. A refusal leaves the buffer as it was.
+pub fn send(
+    direction: u64,
+    settings: u64,
+    start: u64,
+    count: u64,
+    data: &[u8],
+    out: &mut [u8],
+) -> Sent
+    ensures { λ r. ⌜ sending (r .number) (r .samples) (now (out .exit)) ≡ sendOf (order direction settings start count (now («data» .entry))) (now (out .entry)) ⌝ }
+{
+    let number = number_of(direction, settings, start, count, data, out.len());
+    if number == 0 {
+        return Sent {
+            number: 0,
+            samples: put_samples(direction, settings, start, count, data, out),
+        };
+    }
+    Sent {
+        number: number,
+        samples: 0,
+    }
+}
