@@ -1,0 +1,19 @@
+# Two commands do everything: `make run` builds the programs and reads an example, `make test` is the gate.
+.PHONY: run build test clean
+
+# The example: a map, and the samples that the sender makes of one write, into the reader.
+run: build
+	@{ cat examples/scratch.map; target/host/bussend write 0x000A 0x3C; } | target/bin/busread
+
+# Proves what the programs are made of, unless that is done, and builds them.
+build:
+	@mkdir -p target/host
+	@rt check busread host >target/build.log 2>&1 || { cat target/build.log; exit 1; }
+	@rt staticlib host >target/build.log 2>&1 || { cat target/build.log; exit 1; }
+	@gcc -std=c11 -O2 -Wall -Wextra -Werror -o target/host/bussend host/bussend.c target/staticlib/libhost.a
+
+test:
+	@.ci/run
+
+clean:
+	rm -rf target

@@ -1,0 +1,64 @@
+//! The references of docs/AUDIT.md can't rot: each file is there, and each name in it.
+
+use std::fs;
+use std::path::{Path, PathBuf};
+
+fn repository() -> PathBuf {
+    Path::new(env!("CARGO_MANIFEST_DIR")).join("..")
+}
+
+/// The words between backticks that name a file of ours, with the name in it where one is given.
+fn references(text: &str) -> Vec<(String, Option<String>)> {
+    let quoted = text.split('`').skip(1).step_by(2);
+    let files = quoted.filter(|word| {
+        let file = word.split(':').next().unwrap_or("");
+        [".antt", ".rt", ".rs", ".edit"].iter().any(|ending| file.ends_with(ending))
+    });
+    files
+        .map(|word| match word.split_once(':') {
+            Some((file, name)) => (file.to_string(), Some(name.to_string())),
+            None => (word.to_string(), None),
+        })
+        .collect()
+}
+
+fn path_of(file: &str) -> PathBuf {
+    let root = repository();
+    if file.starts_with("tests/") || file.starts_with("host/couplingnut") {
+        return root.join(file);
+    }
+    root.join("crates").join(file)
+}
+
+/// Whether the text has the name as a word of its own.
+fn has_word(text: &str, name: &str) -> bool {
+    let part = |c: char| c.is_alphanumeric() || c == '_' || c == '-';
+    text.match_indices(name).any(|(at, _)| {
+        let before = text[..at].chars().next_back();
+        let after = text[at + name.len()..].chars().next();
+        !before.is_some_and(part) && !after.is_some_and(part)
+    })
+}
+
+#[test]
+fn every_reference_exists() {
+    let page = fs::read_to_string(repository().join("docs/AUDIT.md")).expect("docs/AUDIT.md");
+    let found = references(&page);
+    assert!(found.len() > 100, "only {} references were found", found.len());
+    for (file, name) in found {
+        let path = path_of(&file);
+        let text = fs::read_to_string(&path).unwrap_or_else(|e| panic!("{file}: {e}"));
+        if let Some(name) = name {
+            assert!(has_word(&text, &name), "{file} has no {name}");
+        }
+    }
+}
+
+#[test]
+fn a_wrong_reference_is_seen() {
+    let found = references("see `bits/specs/Bits.antt:merged`, `x`, and `bits/src/lib.rt`");
+    assert_eq!(found.len(), 2);
+    let text = fs::read_to_string(path_of("bits/specs/Bits.antt")).unwrap();
+    assert!(has_word(&text, "merged"));
+    assert!(!has_word(&text, "bitA"));
+}
