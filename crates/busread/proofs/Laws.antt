@@ -4,32 +4,33 @@ use Prim.Native.Nat.{ℕ, _+_, _*_, _%_, _≤_}
 use mathlib.Core.Bool.{_&&_}
 use mathlib.Core.List.{List}
 use native.Mathlib.Omega.{arith}
-use lib.ListN.{length}
+use lib.ListN.{length, take}
+use lib.Seq.{length-take-le}
 use lib.Dec.{eqb, leb}
 use borrow.Author.Tests.{eqb-true, leb-true}
 use Rattle.bits.proofs.Cases.{each, and-left, and-right}
 use Rattle.session.specs.declared.Session.{Session}
+use Rattle.registers.specs.Banks.{Banks}
 use Rattle.reader.specs.Reading.{World}
-use Rattle.reader.specs.Calls.{Outcome, outcome, readNumber, readOf}
-use Rattle.reader.proofs.Refusals.{read-tests}
+use Rattle.reader.specs.Calls.{Opening, opening, openNumber, openOf, Outcome, outcome, readNumber, readOf}
+use Rattle.reader.proofs.Bound.{piece-bound}
+use Rattle.reader.proofs.Refusals.{open-number-most, read-number-most, read-tests}
 use Rattle.busread.specs.declared.Filled.{Filled}
 use Rattle.busread.specs.declared.Filled.the-variants.{Bytes, Failed}
-use Rattle.busread.specs.declared.Piece.{Piece}
-use Rattle.busread.specs.declared.Piece.the-variants.{Written, Ended}
-use Rattle.busread.specs.Bounds.{Within, FewLines, mapEnd}
+use Rattle.busread.specs.Bounds.{Within, mapEnd}
 
 -- the bytes that came
 pub within-bytes : {f : Filled} {got most : ℕ} → f ≡ Bytes got → Within f most → got ≤ most
 within-bytes e w = rw e at w
 
+-- a part of a buffer that holds no more
+pub few-taken : {got most : ℕ} (l : List ℕ) → got ≤ length l → got ≤ most → length (take got l) ≤ most
+few-taken {got} l h few = rw (length-take-le got l h) few
+
 -- a larger bound holds too
 pub within-more : (f : Filled) {some most : ℕ} → some ≤ most → Within f some → Within f most
 within-more (Bytes got) h w = omega arith
 within-more Failed h w = tt
-
--- the lines of a piece
-pub few-lines : {p : Piece} {next : Session} {lines : ℕ} → p ≡ Written next lines → FewLines p → lines ≤ 1400
-few-lines e f = rw e at f
 
 -- a map ends after its length field, and no map is longer than 24,581 bytes
 pub map-end-bounds : (length : ℕ) {end : ℕ} → end ≡ mapEnd length → (2 ≤ end) × (end ≤ 24581)
@@ -47,8 +48,34 @@ within-room m w samples records =
     each (λ (o : Outcome). 6 * o .count ≤ length records) (eqb (readNumber m w samples (length records)) 0)
     (λ t. leb-true _ _ (read-tests m w samples (length records) (eqb-true _ _ t) .enough)) (λ t. omega arith)
 
+-- the number that opening tells
+pub open-told : (m : List ℕ) (b : Banks) {number : ℕ} {s : Session} {after : Banks} → opening number s after ≡ openOf m b → number ≤ 5
+unfolding openOf
+open-told m b {number} e =
+    let told : number ≡ openNumber m b = ap (λ (o : Opening). o .number) e in
+    omega (arith, open-number-most m b)
+
+-- the number that reading a piece tells: the records of 4,096 samples have room
+read-told : (m : List ℕ) (w : World) (samples records : List ℕ) → length samples ≤ 4096 → 8196 ≤ length records → readOf m w samples records .number ≤ 5
+unfolding readOf
+read-told m w samples records few room =
+    let most : readNumber m w samples (length records) ≤ 5 =
+    read-number-most m w samples (length records) (omega (arith, piece-bound (w .session) samples few)) in
+    each (λ (o : Outcome). o .number ≤ 5) (eqb (readNumber m w samples (length records)) 0) (λ t. omega arith) (λ t. most)
+
+-- how many records a piece leaves
 pub records-within : (m : List ℕ) (w : World) (samples records : List ℕ) {number count : ℕ} {after : World} {left : List ℕ}
-    → outcome number after count left ≡ readOf m w samples records → 6 * count ≤ length records
-records-within m w samples records {count = count} e =
+    → outcome number after count left ≡ readOf m w samples records → length records ≡ 8400 → 6 * count ≤ 8400
+records-within m w samples records {count = count} e full =
     let counted : count ≡ readOf m w samples records .count = ap (λ (o : Outcome). o .count) e in
     omega (arith, within-room m w samples records)
+
+-- what is known of a piece before it is written
+pub piece-bounds : (m : List ℕ) (w : World) (samples records : List ℕ) {number count : ℕ} {after : World} {left : List ℕ}
+    → outcome number after count left ≡ readOf m w samples records
+    → length samples ≤ 4096
+    → length records ≡ 8400
+    → (number ≤ 5) × (6 * count ≤ 8400)
+piece-bounds m w samples records {number} e few full =
+    let told : number ≡ readOf m w samples records .number = ap (λ (o : Outcome). o .number) e in
+    (omega (arith, read-told m w samples records few (omega arith)), records-within m w samples records e full)

@@ -1,21 +1,14 @@
--- Bounds of what comes from standard input and of what a piece of the trace gives.
+-- Bounds of what comes from standard input.
 use Prim.Native.Nat.{ℕ, _+_, _%_, _≤_}
 use mathlib.Core.Bool.{cond, _&&_}
 use lib.Dec.{eqb, leb}
 use Rattle.busread.specs.declared.Filled.{Filled}
 use Rattle.busread.specs.declared.Filled.the-variants.{Bytes, Failed}
-use Rattle.busread.specs.declared.Piece.{Piece}
-use Rattle.busread.specs.declared.Piece.the-variants.{Written, Ended}
 
 -- at most so many bytes came
 abbrev pub Within : Filled → ℕ → Type 0
 Within (Bytes got) most = got ≤ most
 Within Failed most = Unit {0}
-
--- as many lines as a buffer of 8,400 bytes holds records
-abbrev pub FewLines : Piece → Type 0
-FewLines (Written next lines) = lines ≤ 1400
-FewLines Ended = Unit {0}
 
 -- Document 01, "The map": where a map with this length field ends. A length is 3 + 3n with n from 16 to 8,192; for one that no
 -- map has nothing is taken but the field itself.

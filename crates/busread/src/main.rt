@@ -6,7 +6,8 @@ ghost use mathlib.Core.Path.{_≡_};
 ghost use Prim.Native.Nat.{_+_, _-_, _*_, _≤_, min};
 ghost use lib.ListN.{length};
 ghost use Rattle.regmap.specs.Format.{countOf};
-ghost use Rattle.busread.specs.Bounds.{Within, FewLines, mapEnd};
+ghost use Rattle.regmap.specs.MapTest.{mapNumber};
+ghost use Rattle.busread.specs.Bounds.{Within, mapEnd};
 use libc::STDIN_FILENO;
 use libc::STDOUT_FILENO;
 use session::Session;
@@ -17,40 +18,21 @@ enum Filled {
     Failed,
 }
 
-// What became of a piece of the trace: its lines are written, with the next session and how many they are; or the output ends.
-enum Piece {
-    Written(Session, usize),
-    Ended,
-}
-
-// Says on standard error that the input failed, and why.
-fn input_failed() {
-    os::fail(b"standard input");
-}
-
-// Reads standard input once, into a part of a buffer. No bytes come where the input has ended.
-fn read_some(space: &mut [u8], from: usize, end: usize) -> Filled
-    requires { ⌜ (from ≤ end) × (end ≤ length (now space)) ⌝ }
-    ensures { λ r. ⌜ Within r (end - from) ⌝ }
-{
-    let part = &mut space[from..end];
-    let got = libc::read(STDIN_FILENO, part);
-    if got < 0 {
-        return Filled::Failed;
-    }
-    Filled::Bytes(io::count(got, part))
-}
-
-// Fills a buffer from standard input up to an end, in as many portions as it takes; how many bytes it then has.
+// Fills a buffer from standard input up to an end, in as many portions as it takes; how many bytes it then has. Where the input
+// fails, says why on standard error.
 fn fill(space: &mut [u8], from: usize, end: usize) -> Filled
     requires { ⌜ (from ≤ end) × (end ≤ length (now space)) ⌝ }
     ensures { λ r. ⌜ Within r end ⌝ }
 {
     let mut at = from;
     while at < end {
-        let Filled::Bytes(more) = read_some(space, at, end) else {
+        let part = &mut space[at..end];
+        let got = libc::read(STDIN_FILENO, part);
+        if got < 0 {
+            os::fail(b"standard input");
             return Filled::Failed;
-        };
+        }
+        let more = io::count(got, part);
         if more == 0 {
             return Filled::Bytes(at);
         }
@@ -109,8 +91,10 @@ fn write_count_line(records: u64, samples: u64) -> bool {
     write_text(&line[..count])
 }
 
-// Writes the line of a refusal.
-fn write_refused_line(number: u8) -> bool {
+// Writes the line of a refusal. Number 6 is never among them: the records of a piece have room.
+fn write_refused_line(number: u8) -> bool
+    requires { ⌜ number ≤ 5 ⌝ }
+{
     let mut line = [0u8; 64];
     let count = report::put_refused_line(number, &mut line);
     write_text(&line[..count])
@@ -132,53 +116,43 @@ fn write_lines(records: &[u8], end: usize) -> bool
     true
 }
 
-// Reads one piece of the trace, and writes its lines or its refusal.
-fn read_piece(
-    map: &[u8],
-    session: Session,
-    active: &mut [u8],
-    buffer: &mut [u8],
-    samples: &[u8],
-    records: &mut [u8; 8400],
-) -> Piece
-    ensures { λ r. ⌜ FewLines r ⌝ }
+// Writes what came of a piece of the trace, its lines or its refusal, and answers whether the reading goes on.
+fn write_piece(number: u8, records: &[u8; 8400], count: usize) -> bool
+    requires { ⌜ (number ≤ 5) × (6 * count ≤ 8400) ⌝ }
 {
-    let answer = reader::read(map, session, active, buffer, samples, records);
-    if answer.number != 0 {
-        write_refused_line(answer.number);
-        return Piece::Ended;
+    if number != 0 {
+        write_refused_line(number);
+        return false;
     }
-    let count = answer.count;
-    if write_lines(records, 6 * count) {
-        let next = answer.session;
-        return Piece::Written(next, count);
-    }
-    Piece::Ended
+    write_lines(records, 6 * count)
 }
 
-// Reads the samples to their end, 4,096 at a time. A loop has to end by itself: this one would before 2 ^ 64 samples.
-fn read_trace(map: &[u8], opened: Session, active: &mut [u8], buffer: &mut [u8]) {
+// Reads the samples to their end, 4,096 at a time, on a map that opening has tested. A loop has to end by itself: this one would
+// before 2 ^ 64 samples.
+fn read_trace(map: &[u8], mut session: Session, active: &mut [u8], buffer: &mut [u8])
+    requires { ⌜ mapNumber (now map) ≡ 0 ⌝ }
+{
     let mut samples = [0u8; 4096];
     let mut records = [0u8; 8400];
-    let mut session = opened;
     let mut record_count: u64 = 0;
     let mut sample_count: u64 = 0;
     while sample_count < u64::MAX - 4096 {
         let Filled::Bytes(got) = fill(&mut samples, 0, 4096) else {
-            input_failed();
             return;
         };
-        let piece = read_piece(map, session, active, buffer, &samples[..got], &mut records);
-        let Piece::Written(next, lines) = piece else {
+        let piece = &samples[..got];
+        let answer = reader::read_tested(map, session, active, buffer, piece, &mut records);
+        let count = answer.count;
+        if !write_piece(answer.number, &records, count) {
             return;
-        };
-        record_count += lines as u64;
+        }
+        record_count += count as u64;
         sample_count += got as u64;
         if got < 4096 {
             write_count_line(record_count, sample_count);
             return;
         }
-        session = next;
+        session = answer.session;
     }
 }
 
@@ -190,8 +164,7 @@ fn read_all(map: &[u8], active: &mut [u8], buffer: &mut [u8]) {
         return;
     }
     if write_map_line(regmap::count(map)) {
-        let session = opened.session;
-        read_trace(map, session, active, buffer);
+        read_trace(map, opened.session, active, buffer);
     }
 }
 
@@ -209,7 +182,6 @@ fn main() {
     let mut active = [0u8; 8192];
     let mut buffer = [0u8; 8192];
     let Filled::Bytes(length) = read_map(&mut map) else {
-        input_failed();
         return;
     };
     let given = &map[..length];

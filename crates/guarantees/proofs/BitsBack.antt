@@ -9,7 +9,7 @@ use native.Mathlib.Omega.{arith}
 use lib.Dec.{eqb}
 use lib.Pow.{shr-shr, mod-pow-add}
 use Rattle.bits.specs.Bits.{bitAt, bitOf, shiftedIn}
-use Rattle.sender.specs.Samples.{highFirst, lowFirst, bitsOf}
+use Rattle.order.specs.Samples.{highFirst, lowFirst, bitsOf}
 
 -- the value of n bits with some more taken
 unfoldable pub takenIn : Bool → ℕ → ℕ → List Bool → ℕ

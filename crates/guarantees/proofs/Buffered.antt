@@ -17,8 +17,8 @@ use Rattle.regmap.proofs.Laws.{control-15}
 use Rattle.registers.specs.Banks.{Banks, Mapped, transferred}
 use Rattle.registers.specs.Write.{controlBanks, writeBanks}
 use Rattle.registers.proofs.Laws.{in-banks, getD-transfer, mapped-write}
-use Rattle.sender.specs.Order.{RunByte}
-use Rattle.sender.specs.Calls.{isConfiguration}
+use Rattle.order.specs.Order.{RunByte}
+use Rattle.order.specs.Number.{isConfiguration}
 use Rattle.guarantees.specs.Book.{writeAll, clearOfConfiguration}
 use Rattle.guarantees.specs.InForce.{isTransfer, anyTransfer}
 

@@ -9,10 +9,10 @@ use lib.ListN.{length, take}
 use borrow.Author.Tests.{leb-true, leb-false}
 use Rattle.registers.specs.Banks.{Banks}
 use Rattle.registers.specs.Write.{writeBanks}
-use Rattle.reader.specs.Reading.{banksAfter}
-use Rattle.sender.specs.Order.{Order, RunByte, isRead, ascending, singleInstruction, sentBytes, runBytes}
-use Rattle.sender.specs.Samples.{samplesOf}
-use Rattle.sender.proofs.Laws.{length-run-from, length-sent, length-counted, admitted}
+use Rattle.records.specs.BanksAfter.{banksAfter}
+use Rattle.order.specs.Order.{Order, RunByte, isRead, ascending, singleInstruction, sentBytes, runBytes}
+use Rattle.order.specs.Samples.{samplesOf}
+use Rattle.order.proofs.Laws.{length-run-from, length-sent, length-counted, admitted}
 use Rattle.guarantees.specs.AtRest.{Accepted}
 use Rattle.guarantees.specs.Book.{wholeAfter, wholeBytes, writeAll}
 use Rattle.guarantees.specs.Counts.{SampleCount, WholeByte, WholeEffect}

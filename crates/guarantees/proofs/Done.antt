@@ -16,11 +16,11 @@ use Rattle.session.proofs.Laws.{sound-step}
 use Rattle.registers.specs.Banks.{Banks, Mapped}
 use Rattle.reader.specs.Reading.{World, worldAfter, runOf, recordCount, samplesGood}
 use Rattle.reader.specs.Calls.{banksFit, readNumber}
-use Rattle.reader.proofs.Laws.{mapped-after}
+use Rattle.records.proofs.Laws.{mapped-after}
 use Rattle.reader.proofs.Refusals.{fits-mapped}
-use Rattle.sender.specs.Order.{Order, singleInstruction}
-use Rattle.sender.specs.Samples.{clocked, orderBits, samplesOf}
-use Rattle.sender.proofs.Laws.{admitted}
+use Rattle.order.specs.Order.{Order, singleInstruction}
+use Rattle.order.specs.Samples.{clocked, orderBits, samplesOf}
+use Rattle.order.proofs.Laws.{admitted}
 use Rattle.guarantees.specs.AtRest.{AtRest, Accepted}
 use Rattle.guarantees.proofs.Counts.{sample-count}
 

@@ -7,19 +7,20 @@ use native.Mathlib.Omega.{arith}
 use lib.Dec.{eqb, ltb}
 use lib.ListN.{length}
 use Rattle.bits.proofs.Cases.{each}
+use Rattle.settings.specs.declared.Settings.{Settings}
+use Rattle.settings.specs.Settings.{settingsAfter}
 use Rattle.session.specs.declared.Phase.{Phase}
 use Rattle.session.specs.declared.Phase.the-variants.{Rest, Instruction, Data}
-use Rattle.session.specs.declared.Settings.{Settings}
 use Rattle.session.specs.declared.Session.{Session}
 use Rattle.session.specs.declared.Event.{Event}
 use Rattle.session.specs.declared.Event.the-variants.{Nothing, Whole, Aborted}
-use Rattle.session.specs.Settings.{settingsAfter}
 use Rattle.session.specs.State.{resting, starting, withLevels}
 use Rattle.session.specs.Step.{csbOf, sclkOf, dataLine, valueWith, settingsOnByte, withInstructionBit, withDataBit, withBit, stepOf}
 use Rattle.session.specs.Event.{isData, bitEvent, abortEvent, eventOf}
 use Rattle.registers.specs.Banks.{Banks}
-use Rattle.reader.specs.Records.{recordOf, recordsIn}
-use Rattle.reader.specs.Reading.{World, banksAfter, worldAfter, runOf, recordsOf, recordCount}
+use Rattle.records.specs.Records.{recordOf, recordsIn}
+use Rattle.records.specs.BanksAfter.{banksAfter}
+use Rattle.reader.specs.Reading.{World, worldAfter, runOf, recordsOf, recordCount}
 
 -- an event is noted unless it is nothing
 abbrev pub noted : Event → List Event → List Event

@@ -10,15 +10,14 @@ use lib.ListN.{replicate}
 use lib.Pow.{areBytes}
 use borrow.Author.Tests.{ltb-true}
 use Rattle.bits.proofs.Cases.{each, and-left, and-right, or-left, or-right}
-use Rattle.session.specs.declared.Settings.{Settings}
-use Rattle.session.specs.declared.InUse.{InUse}
-use Rattle.session.specs.Settings.{inUseOf, settingsAfter}
-use Rattle.session.specs.Step.{nextAddress}
+use Rattle.settings.specs.declared.Settings.{Settings}
+use Rattle.settings.specs.declared.InUse.{InUse}
+use Rattle.settings.specs.Settings.{inUseOf, nextAddress, settingsAfter}
+use Rattle.settings.proofs.Laws.{next-lt}
 use Rattle.reader.specs.Reading.{World}
-use Rattle.sender.specs.Order.{Order, RunByte, isRead, ascending, runFrom, sentBytes}
-use Rattle.sender.specs.Calls.{isConfiguration, configuresEarly}
-use Rattle.session.proofs.Form.{next-lt}
-use Rattle.sender.proofs.Laws.{admitted}
+use Rattle.order.specs.Order.{Order, RunByte, isRead, ascending, runFrom, sentBytes}
+use Rattle.order.specs.Number.{isConfiguration, configuresEarly}
+use Rattle.order.proofs.Laws.{admitted}
 use Rattle.guarantees.specs.AtRest.{AtRest, Accepted}
 use Rattle.guarantees.proofs.Events.{settingsOn}
 use Rattle.guarantees.proofs.Runs.{wholeOf, AllFit}

@@ -6,7 +6,7 @@ use mathlib.Core.List.{List}
 use Prim.Native.Nat.{ℕ}
 use lib.ListN.{take, drop, take-append-drop}
 use Rattle.bits.proofs.Cases.{and-left}
-use Rattle.sender.specs.Order.{Order, RunByte, runBytes}
+use Rattle.order.specs.Order.{Order, RunByte, runBytes}
 use Rattle.guarantees.specs.Book.{wholeBytes, writeAll, bookOf, clearOfConfiguration}
 use Rattle.guarantees.specs.InForce.{wholeRun, KeptInForce, LastTransfer, BrokenByte}
 use Rattle.guarantees.proofs.StoppedRun.{stopped-run}

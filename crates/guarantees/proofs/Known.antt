@@ -6,22 +6,23 @@ use Rattle.bits.specs.Tests.{every}
 use Rattle.regmap.specs.Format.{countOf, entryAt}
 use Rattle.regmap.specs.MapTest.{kindRule, placeRule, entryGood, entriesGood, mapNumber}
 use Rattle.regmap.proofs.Laws.{good-length, good-form}
-use Rattle.session.specs.Settings.{settingsAfter, controlReading}
+use Rattle.settings.specs.Settings.{settingsAfter, controlReading}
 use Rattle.session.specs.Step.{withInstructionBit, withDataBit, stepOf}
 use Rattle.session.specs.Event.{bitEvent, abortEvent, eventOf}
 use Rattle.registers.specs.Banks.{defaultsFrom, defaultBanks, transferFrom, transferred}
 use Rattle.registers.specs.Write.{controlBanks, writeBanks, writtenOf}
 use Rattle.registers.specs.Read.{dueByte}
-use Rattle.reader.specs.Records.{recordOf}
-use Rattle.reader.specs.Reading.{banksAfter, recordsOf}
-use Rattle.sender.specs.Order.{runFrom}
-use Rattle.sender.specs.Samples.{highFirst, lowFirst, bitsOf, byteBits, runBits, orderBits, clocked, samplesOf}
+use Rattle.records.specs.Records.{recordOf}
+use Rattle.records.specs.BanksAfter.{banksAfter}
+use Rattle.reader.specs.Reading.{runOf, recordsOf}
+use Rattle.order.specs.Order.{runFrom}
+use Rattle.order.specs.Samples.{highFirst, lowFirst, bitsOf, byteBits, runBits, orderBits, clocked, samplesOf}
 use Rattle.guarantees.specs.Known.{KnownResults}
 
 pub known-results : KnownResults
 unfolding bitAt merged every countOf entryAt kindRule placeRule entryGood entriesGood mapNumber
     settingsAfter controlReading withInstructionBit withDataBit stepOf bitEvent abortEvent eventOf
-    defaultsFrom defaultBanks transferFrom transferred controlBanks writeBanks writtenOf dueByte recordOf banksAfter recordsOf
+    defaultsFrom defaultBanks transferFrom transferred controlBanks writeBanks writtenOf dueByte recordOf banksAfter runOf recordsOf
     runFrom highFirst lowFirst bitsOf byteBits runBits orderBits clocked samplesOf
 known-results = record {
   length-16 = λ m good n. (good-length m good ∙ ap (λ (k : ℕ). 3 + 3 * k) n, good-form m good ∙ ap (λ (k : ℕ). 5 + 3 * k) n);

@@ -8,8 +8,8 @@ use lib.ListN.{length, take, drop, replicate, length-append, length-take, length
 use borrow.Author.Tests.{le-leb}
 use Rattle.reader.specs.Reading.{World, recordCount, samplesGood}
 use Rattle.reader.specs.Calls.{readNumber, readOf}
-use Rattle.sender.specs.Order.{Order}
-use Rattle.sender.specs.Samples.{samplesOf}
+use Rattle.order.specs.Order.{Order}
+use Rattle.order.specs.Samples.{samplesOf}
 use Rattle.guarantees.specs.AtRest.{AtRest, Accepted}
 use Rattle.guarantees.specs.Calls.{Call, outcomeOf, isDone, afterCalls, joined}
 use Rattle.guarantees.specs.StoppedRun.{stoppedSamples}

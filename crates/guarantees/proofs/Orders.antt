@@ -12,17 +12,17 @@ use lib.Seq.{take-nil}
 use borrow.Author.Tests.{ltb-true}
 use Rattle.bits.specs.Bits.{bitAt}
 use Rattle.bits.proofs.Cases.{each}
-use Rattle.session.specs.declared.Settings.{Settings}
+use Rattle.settings.specs.declared.Settings.{Settings}
+use Rattle.settings.specs.Settings.{inUseOf}
 use Rattle.session.specs.declared.Event.{Event}
-use Rattle.session.specs.Settings.{inUseOf}
 use Rattle.session.specs.State.{resting, starting, inData}
 use Rattle.session.specs.Step.{stepOf}
 use Rattle.session.specs.Event.{eventOf}
 use Rattle.session.proofs.Form.{rest-form}
 use Rattle.reader.specs.Reading.{World}
-use Rattle.sender.specs.Order.{Order, RunByte, isRead, ascending, singleInstruction, runFrom, sentBytes, runBytes}
-use Rattle.sender.specs.Samples.{bitsOf, instructionOf, runBits, orderBits, clocked, samplesOf}
-use Rattle.sender.proofs.Laws.{admitted}
+use Rattle.order.specs.Order.{Order, RunByte, isRead, ascending, singleInstruction, runFrom, sentBytes, runBytes}
+use Rattle.order.specs.Samples.{bitsOf, instructionOf, runBits, orderBits, clocked, samplesOf}
+use Rattle.order.proofs.Laws.{admitted}
 use Rattle.guarantees.specs.AtRest.{AtRest, Accepted}
 use Rattle.guarantees.specs.Book.{wholeBytes}
 use Rattle.guarantees.proofs.Events.{eventsOf}

@@ -10,18 +10,19 @@ use lib.ListN.{length, take}
 use lib.Seq.{take-nil, take-append-le, take-append-add}
 use borrow.Author.Tests.{lt-ltb, le-ltb, lt-leb, le-leb}
 use Rattle.bits.specs.Bits.{bitAt, bitOf, shiftedIn}
+use Rattle.settings.specs.declared.Settings.{Settings}
+use Rattle.settings.specs.declared.InUse.{InUse}
+use Rattle.settings.specs.Settings.{nextAddress}
 use Rattle.session.specs.declared.Phase.{Phase}
 use Rattle.session.specs.declared.Phase.the-variants.{Instruction, Data}
-use Rattle.session.specs.declared.Settings.{Settings}
-use Rattle.session.specs.declared.InUse.{InUse}
 use Rattle.session.specs.declared.Session.{Session}
 use Rattle.session.specs.declared.Event.{Event}
 use Rattle.session.specs.declared.Event.the-variants.{Whole}
 use Rattle.session.specs.State.{resting, instructing, starting, inData}
-use Rattle.session.specs.Step.{sdioOf, sdoOf, nextAddress, withInstructionBit, withDataBit, withBit, stepOf}
+use Rattle.session.specs.Step.{sdioOf, sdoOf, withInstructionBit, withDataBit, withBit, stepOf}
 use Rattle.session.specs.Event.{bitEvent, abortEvent, eventOf}
-use Rattle.sender.specs.Samples.{highFirst, lowFirst, bitsOf, instructionOf, clocked}
-use Rattle.sender.proofs.Laws.{length-bits, length-clocked}
+use Rattle.order.specs.Samples.{highFirst, lowFirst, bitsOf, instructionOf, clocked}
+use Rattle.order.proofs.Laws.{length-bits, length-clocked}
 use Rattle.guarantees.proofs.BitsBack.{takenIn, bits-back}
 use Rattle.guarantees.proofs.Events.{noted, eventsOf, settingsOn}
 

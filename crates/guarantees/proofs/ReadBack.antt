@@ -8,16 +8,17 @@ use lib.ListN.{length, take, length-map}
 use lib.Seq.{take-length}
 use Rattle.bits.specs.Bits.{bitAt}
 use Rattle.bits.specs.Buffer.{filled}
-use Rattle.session.specs.declared.Settings.{Settings}
+use Rattle.settings.specs.declared.Settings.{Settings}
 use Rattle.session.specs.declared.Session.{Session}
 use Rattle.session.specs.State.{resting}
 use Rattle.session.specs.Step.{stepOf}
 use Rattle.registers.specs.Banks.{Banks}
-use Rattle.reader.specs.Records.{recordOf}
-use Rattle.reader.specs.Reading.{World, banksAfter, runOf, recordsOf, recordCount}
+use Rattle.records.specs.Records.{recordOf}
+use Rattle.records.specs.BanksAfter.{banksAfter}
+use Rattle.reader.specs.Reading.{World, runOf, recordsOf, recordCount}
 use Rattle.reader.specs.Calls.{readNumber, readOf}
-use Rattle.sender.specs.Order.{Order, RunByte, isRead, singleInstruction, runBytes}
-use Rattle.sender.specs.Samples.{clocked, orderBits, samplesOf}
+use Rattle.order.specs.Order.{Order, RunByte, isRead, singleInstruction, runBytes}
+use Rattle.order.specs.Samples.{clocked, orderBits, samplesOf}
 use Rattle.guarantees.specs.AtRest.{AtRest, Accepted}
 use Rattle.guarantees.specs.Book.{wholeBytes}
 use Rattle.guarantees.specs.ReadBack.{settingsPast, settingsLeft, banksLeft, recordsLeft, ReadBack}

@@ -11,18 +11,17 @@ use lib.Dec.{ltb}
 use lib.ListN.{take}
 use lib.Seq.{take-nil}
 use borrow.Author.Tests.{lt-ltb, le-ltb, ltb-true, ltb-false}
+use Rattle.settings.specs.declared.Settings.{Settings}
+use Rattle.settings.specs.declared.InUse.{InUse}
+use Rattle.settings.specs.Settings.{inUseOf, nextAddress}
 use Rattle.session.specs.declared.Phase.the-variants.{Instruction, Data}
-use Rattle.session.specs.declared.Settings.{Settings}
-use Rattle.session.specs.declared.InUse.{InUse}
 use Rattle.session.specs.declared.Session.{Session}
 use Rattle.session.specs.declared.Event.{Event}
 use Rattle.session.specs.declared.Event.the-variants.{Whole}
-use Rattle.session.specs.Settings.{inUseOf}
 use Rattle.session.specs.State.{instructing}
-use Rattle.session.specs.Step.{nextAddress}
-use Rattle.sender.specs.Order.{RunByte, runFrom}
-use Rattle.sender.specs.Samples.{bitsOf, instructionOf, byteBits, runBits, clocked}
-use Rattle.sender.proofs.Laws.{clocked-append}
+use Rattle.order.specs.Order.{RunByte, runFrom}
+use Rattle.order.specs.Samples.{bitsOf, instructionOf, byteBits, runBits, clocked}
+use Rattle.order.proofs.Laws.{clocked-append}
 use Rattle.guarantees.proofs.Events.{eventsOf, settingsOn}
 use Rattle.guarantees.proofs.Pieces.{ready, written, quiet-end, stopped-instruction, stopped-byte}
 

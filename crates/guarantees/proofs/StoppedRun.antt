@@ -11,8 +11,9 @@ use Rattle.session.specs.declared.Event.{Event}
 use Rattle.session.specs.Step.{csbOf, csbRises, takesBit}
 use Rattle.session.specs.Event.{abortEvent, eventOf}
 use Rattle.registers.specs.Banks.{Banks}
-use Rattle.reader.specs.Reading.{World, banksAfter, runOf}
-use Rattle.sender.specs.Samples.{samplesOf}
+use Rattle.records.specs.BanksAfter.{banksAfter}
+use Rattle.reader.specs.Reading.{World, runOf}
+use Rattle.order.specs.Samples.{samplesOf}
 use Rattle.guarantees.specs.Book.{bookOf}
 use Rattle.guarantees.specs.StoppedRun.{StoppedRun}
 use Rattle.guarantees.proofs.Calls.{run-append, calls-run}

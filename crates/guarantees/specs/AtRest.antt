@@ -5,14 +5,14 @@ use mathlib.Core.Bool.{true}
 use mathlib.Core.List.{List}
 use lib.Pow.{areBytes}
 use Rattle.regmap.specs.MapTest.{mapNumber}
+use Rattle.settings.specs.declared.Settings.{Settings}
 use Rattle.session.specs.declared.Phase.the-variants.{Rest}
 use Rattle.session.specs.declared.Session.{Session}
-use Rattle.session.specs.declared.Settings.{Settings}
 use Rattle.session.specs.State.{soundSession}
 use Rattle.reader.specs.Reading.{World}
 use Rattle.reader.specs.Calls.{banksFit}
-use Rattle.sender.specs.Order.{Order, lsbFirst, ascending, singleInstruction}
-use Rattle.sender.specs.Calls.{sendNumber}
+use Rattle.order.specs.Order.{Order, lsbFirst, ascending, singleInstruction}
+use Rattle.order.specs.Number.{sendNumber}
 
 -- Document 01, "Registers and session": a session at rest is sound and comes with a good map and banks of n bytes; the same
 -- settings means that those an order can name agree with it, the others being at will.

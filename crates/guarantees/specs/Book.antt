@@ -5,8 +5,8 @@ use mathlib.Core.List.{List, [], _∷_}
 use lib.ListN.{length, take}
 use Rattle.registers.specs.Banks.{Banks}
 use Rattle.registers.specs.Write.{writeBanks}
-use Rattle.sender.specs.Order.{Order, RunByte, singleInstruction, runBytes}
-use Rattle.sender.specs.Calls.{isConfiguration}
+use Rattle.order.specs.Order.{Order, RunByte, singleInstruction, runBytes}
+use Rattle.order.specs.Number.{isConfiguration}
 
 -- Byte i (from 1) is whole once 33 + 16i samples have been sent, or 48i + 1 with single instruction.
 abbrev pub wholeAfter : Order → ℕ → ℕ

@@ -6,8 +6,8 @@ use mathlib.Core.List.{List, []}
 use lib.ListN.{length, take}
 use lib.Dec.{leb}
 use Rattle.reader.specs.Reading.{World, runOf}
-use Rattle.sender.specs.Order.{Order, isRead, singleInstruction, runBytes}
-use Rattle.sender.specs.Samples.{samplesOf}
+use Rattle.order.specs.Order.{Order, isRead, singleInstruction, runBytes}
+use Rattle.order.specs.Samples.{samplesOf}
 use Rattle.guarantees.specs.AtRest.{AtRest, Accepted}
 use Rattle.guarantees.specs.Book.{wholeAfter, wholeBytes, writeAll}
 

@@ -7,17 +7,14 @@ use lib.ListN.{length, take, replicate, getD}
 use Rattle.bits.specs.Bits.{merged}
 use Rattle.regmap.specs.Format.{lengthOf, countOf}
 use Rattle.regmap.specs.MapTest.{mapNumber}
-use Rattle.session.specs.declared.Settings.{Settings}
+use Rattle.settings.specs.Settings.{nextAddress}
 use Rattle.session.specs.declared.Session.{Session}
 use Rattle.session.specs.State.{openedSession}
-use Rattle.session.specs.Settings.{settingsAfter}
-use Rattle.session.specs.Step.{nextAddress}
-use Rattle.registers.specs.Banks.{Banks, defaultBanks}
-use Rattle.registers.specs.Write.{writeBanks}
+use Rattle.registers.specs.Banks.{defaultBanks}
 use Rattle.registers.specs.Read.{dueByte}
-use Rattle.reader.specs.Reading.{World, recordsOf}
-use Rattle.sender.specs.Order.{Order}
-use Rattle.sender.specs.Samples.{samplesOf, orderBits}
+use Rattle.reader.specs.Reading.{World, runOf, recordsOf}
+use Rattle.order.specs.Order.{Order}
+use Rattle.order.specs.Samples.{samplesOf, orderBits}
 use Rattle.guarantees.specs.StoppedRun.{stoppedSamples}
 
 -- a good map of 16 registers: each entry is kind, mask, default
@@ -41,6 +38,10 @@ writeOne settings a v = record { direction = 0; settings = settings; start = a; 
 abbrev pub writeThousand : ℕ → Order
 writeThousand settings = record { direction = 0; settings = settings; start = 0x0010; count = 1000; bytes = replicate 1000 0x07 }
 
+abbrev pub samplesOfAll : List Order → List ℕ
+samplesOfAll [] = []
+samplesOfAll (o ∷ os) = samplesOf o ++ samplesOfAll os
+
 -- a map after opening
 abbrev pub opened : List ℕ → World
 opened m = record { session = openedSession; banks = defaultBanks m }
@@ -49,12 +50,13 @@ opened m = record { session = openedSession; banks = defaultBanks m }
 abbrev pub recordsAfterOpening : List ℕ → List ℕ → List ℕ
 recordsAfterOpening m xs = recordsOf m (opened m) xs
 
--- the settings after 0x20 is written to 0x0001, and the banks after 0x22 is written to 0x0010
-abbrev pub withReadback : Settings
-withReadback = settingsAfter (openedSession .settings) 0x0001 0x20
+-- the second map after opening and the samples of some orders, one after another
+abbrev pub after : List Order → World
+after orders = runOf map17 (opened map17) (samplesOfAll orders)
 
-abbrev pub with22 : Banks
-with22 = writeBanks map17 (defaultBanks map17) 0x0010 0x22
+-- the byte that 0x0010 is then due to answer
+abbrev pub due10 : World → ℕ
+due10 w = dueByte map17 (w .banks) (w .session .settings) 0x0010
 
 abbrev pub bitsOfDigits : List ℕ → List Bool
 bitsOfDigits [] = []
@@ -86,10 +88,10 @@ pub record KnownResults : Type 0 where
   -- descending from 0x0000, ascending from 0x7FFF
   pub wrap-down : nextAddress false 0x0000 ≡ 0x7FFF
   pub wrap-up : nextAddress true 0x7FFF ≡ 0x0000
-  -- the buffered register: after the write of 0x22 due 0x11; with buffer readback due 0x22; after the transfer active 0x22
-  pub due-11 : dueByte map17 with22 (openedSession .settings) 0x0010 ≡ 0x11
-  pub due-22 : dueByte map17 with22 withReadback 0x0010 ≡ 0x22
-  pub active-22 : getD (writeBanks map17 with22 0x000F 0x01 .active) 0x0010 0 ≡ 0x22
+  -- the buffered register: after the write of 0x22 due 0x11; after 0x20 to 0x0001 due 0x22; after 0x01 to 0x000F active 0x22
+  pub due-11 : due10 (after (writeOne 0 0x0010 0x22 ∷ [])) ≡ 0x11
+  pub due-22 : due10 (after (writeOne 0 0x0010 0x22 ∷ writeOne 0 0x0001 0x20 ∷ [])) ≡ 0x22
+  pub active-22 : getD (after (writeOne 0 0x0010 0x22 ∷ writeOne 0 0x0001 0x20 ∷ writeOne 0 0x000F 0x01 ∷ []) .banks .active) 0x0010 0 ≡ 0x22
   -- k = 1,000: 16,035 samples, or 48,003
   pub thousand : length (samplesOf (writeThousand 2)) ≡ 16035
   pub thousand-single : length (samplesOf (writeThousand 6)) ≡ 48003

@@ -5,16 +5,17 @@ use mathlib.Core.Bool.{Bool, cond, false}
 use mathlib.Core.List.{List, [], _∷_, _++_}
 use lib.ListN.{length}
 use Rattle.bits.specs.Buffer.{filled}
-use Rattle.session.specs.declared.Settings.{Settings}
+use Rattle.settings.specs.declared.Settings.{Settings}
+use Rattle.settings.specs.Settings.{settingsAfter}
 use Rattle.session.specs.declared.Event.the-variants.{Whole}
-use Rattle.session.specs.Settings.{settingsAfter}
 use Rattle.session.specs.State.{resting}
 use Rattle.registers.specs.Banks.{Banks}
-use Rattle.reader.specs.Records.{recordOf}
-use Rattle.reader.specs.Reading.{World, banksAfter}
+use Rattle.records.specs.Records.{recordOf}
+use Rattle.records.specs.BanksAfter.{banksAfter}
+use Rattle.reader.specs.Reading.{World}
 use Rattle.reader.specs.Calls.{Outcome, readOf}
-use Rattle.sender.specs.Order.{Order, RunByte, isRead, runBytes}
-use Rattle.sender.specs.Samples.{samplesOf}
+use Rattle.order.specs.Order.{Order, RunByte, isRead, runBytes}
+use Rattle.order.specs.Samples.{samplesOf}
 use Rattle.guarantees.specs.AtRest.{AtRest, Accepted}
 
 -- the settings after a whole byte of a run: a read changes none

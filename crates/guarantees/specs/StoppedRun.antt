@@ -6,8 +6,8 @@ use mathlib.Core.List.{List, [], _∷_, _++_}
 use lib.ListN.{take}
 use Rattle.session.specs.Step.{csbOf}
 use Rattle.reader.specs.Reading.{World}
-use Rattle.sender.specs.Order.{Order, isRead, runBytes}
-use Rattle.sender.specs.Samples.{samplesOf}
+use Rattle.order.specs.Order.{Order, isRead, runBytes}
+use Rattle.order.specs.Samples.{samplesOf}
 use Rattle.guarantees.specs.AtRest.{AtRest, Accepted}
 use Rattle.guarantees.specs.Calls.{Call, afterCalls, joined}
 use Rattle.guarantees.specs.Book.{bookOf, clearOfConfiguration}

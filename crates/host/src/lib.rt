@@ -1,7 +1,7 @@
 // What the bench host, a C program, calls: the map test and the sender, on numbers and byte slices.
 ghost use mathlib.Core.Path.{_≡_};
 ghost use Rattle.regmap.specs.MapTest.{mapNumber};
-ghost use Rattle.sender.specs.Order.{order};
+ghost use Rattle.order.specs.Order.{order};
 ghost use Rattle.sender.specs.Calls.{sending, sendOf};
 use regmap::map_test;
 use sender::send;

@@ -9,15 +9,15 @@ use lib.Dec.{eqb, ltb}
 use lib.ListN.{length}
 use borrow.Author.Tests.{ltb-false, ne-eqb}
 use Rattle.bits.proofs.Cases.{each}
+use Rattle.settings.specs.declared.Settings.{Settings}
 use Rattle.session.specs.declared.Phase.{Phase}
 use Rattle.session.specs.declared.Phase.the-variants.{Rest, Instruction, Data}
-use Rattle.session.specs.declared.Settings.{Settings}
 use Rattle.session.specs.declared.Session.{Session}
 use Rattle.session.specs.declared.Event.{Event}
 use Rattle.session.specs.declared.Event.the-variants.{Nothing, Whole, Aborted}
 use Rattle.session.specs.Step.{stepOf, csbOf, sclkOf, withBit, withDataBit, afterByte, withInstructionBit, settingsOnByte, valueWith, dataLine, sdioOf}
 use Rattle.session.specs.Event.{eventOf, bitEvent, abortEvent, isData}
-use Rattle.reader.specs.Records.{recordsIn}
+use Rattle.records.specs.Records.{recordsIn}
 use Rattle.reader.specs.Reading.{recordCount}
 
 pub at-most-one : (e : Event) → recordsIn e ≤ 1

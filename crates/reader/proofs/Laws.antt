@@ -2,17 +2,16 @@
 use mathlib.Core.Path.{_≡_, refl, sym, _∙_, ap, subst}
 use mathlib.Core.Bool.{true}
 use mathlib.Core.List.{List, [], _∷_, _++_}
-use Prim.Native.Nat.{ℕ, suc, _+_, _*_, _<_, _≤_}
+use Prim.Native.Nat.{ℕ, _+_, _*_, _<_, _≤_}
 use native.Mathlib.Omega.{arith}
 use native.Mathlib.Numerals.{add-one}
-use native.Mathlib.Nat.{zero-add, add-zero, add-suc, suc-add}
+use native.Mathlib.Nat.{zero-add, add-zero}
 use lib.ListN.{length, getD, drop, drop-of-length-le, length-append}
 use lib.Seq.{drop-cons, sets, sets-eq, length-sets}
-use Rattle.bits.proofs.Cases.{each}
-use Rattle.session.specs.declared.Settings.{Settings}
+use Rattle.bits.proofs.Buffer.{sets-append}
+use Rattle.settings.specs.declared.Settings.{Settings}
 use Rattle.session.specs.declared.Session.{Session}
 use Rattle.session.specs.declared.Event.{Event}
-use Rattle.session.specs.declared.Event.the-variants.{Nothing, Whole, Aborted}
 use Rattle.session.specs.State.{soundSession}
 use Rattle.session.specs.Step.{stepOf}
 use Rattle.session.specs.Event.{eventOf}
@@ -20,21 +19,12 @@ use Rattle.session.proofs.Laws.{sound-step}
 use Rattle.trace.specs.Path.{Quiet, still, more, Next, none, one}
 use Rattle.trace.proofs.Paths.{settings-quiet}
 use Rattle.registers.specs.Banks.{Banks, banks, Mapped}
-use Rattle.registers.proofs.Laws.{mapped-write}
-use Rattle.reader.specs.Records.{recordOf, recordsIn}
-use Rattle.reader.specs.Reading.{World, world, banksAfter, worldAfter, runOf, recordsOf, recordCount}
-use Rattle.reader.specs.Contracts.{Taking, Taken, Ready, Done}
-
-pub sets-append : (a b l : List ℕ) (i : ℕ) → sets l i (a ++ b) ≡ sets (sets l i a) (i + length a) b
-sets-append [] b l i = rw add-zero
-sets-append (x ∷ a) b l i = rw (add-suc, ← suc-add) (sets-append a b _ (suc i))
-
--- an event keeps the sizes of the banks
-pub mapped-after : (m : List ℕ) (b : Banks) (e : Event) → Mapped m b → Mapped m (banksAfter m b e)
-unfolding banksAfter
-mapped-after m b Nothing h = h
-mapped-after m b (Whole read a v) h = each (Mapped m) read (λ e. h) (λ e. mapped-write h a v)
-mapped-after m b (Aborted a bits d) h = h
+use Rattle.records.specs.BanksAfter.{banksAfter}
+use Rattle.records.specs.Records.{recordOf}
+use Rattle.records.specs.Contracts.{Taking, Taken}
+use Rattle.records.proofs.Laws.{mapped-after, six}
+use Rattle.reader.specs.Reading.{World, world, worldAfter, runOf, recordsOf, recordCount}
+use Rattle.reader.specs.Contracts.{Ready, Done}
 
 -- the record of sample x
 abbrev recordAt : List ℕ → World → ℕ → List ℕ
@@ -141,18 +131,6 @@ again {m} {t = t} {act} {buf} {new = new} {n} k (none q) act′ buf′ new′ n�
 again {m} {act = act} {buf} {new = new} {n} {e = e} k (one q h) act′ buf′ new′ n′ a =
     again-one h (still-reading k q) e act′ buf′ new′ n′ _ refl
     (subst (λ (t : Settings). Taken m (banks act buf) t e new n (banks act′ buf′) new′ n′) (sym (settings-quiet q)) a) refl
-
--- a record has six bytes
-pub six : (m : List ℕ) (b : Banks) (t : Settings) (e : Event) → length (recordOf m b t e) ≡ 6 * recordsIn e
-unfolding recordOf
-six m b t Nothing = refl
-six m b t (Whole read a v) = each (λ (l : List ℕ). length l ≡ 6) read (λ e. refl) (λ e. refl)
-six m b t (Aborted a bits d) = refl
-
--- so the place after an event that is taken is known without its record
-pub place-after : {m : List ℕ} {b : Banks} {t : Settings} {e : Event} {old : List ℕ} {at : ℕ} {after : Banks} {new : List ℕ} {next : ℕ}
-    → Taken m b t e old at after new next → next ≡ at + 6 * recordsIn e
-place-after {m} {b} {t} {e} {at = at} a = a .next-place ∙ ap (λ (n : ℕ). at + n) (six m b t e)
 
 -- six bytes a record
 pub records-size : (m xs : List ℕ) (w : World) → length (recordsOf m w xs) ≡ 6 * recordCount (w .session) xs

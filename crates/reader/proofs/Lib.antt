@@ -3,4 +3,3 @@ pub mod Laws
 pub mod Refusals
 pub mod Running
 pub mod Scan
-pub mod Taking

@@ -12,12 +12,12 @@ use Rattle.bits.specs.Tests.{unless}
 use Rattle.bits.proofs.Cases.{yes, no, and-left, and-right}
 use Rattle.regmap.specs.Format.{countOf}
 use Rattle.regmap.specs.MapTest.{mapNumber}
-use Rattle.regmap.proofs.Laws.{good-form}
+use Rattle.regmap.proofs.Laws.{good-form, map-number-most}
 use Rattle.session.specs.declared.Session.{Session}
 use Rattle.session.specs.State.{soundSession, openedSession}
 use Rattle.registers.specs.Banks.{Banks, Mapped, defaultBanks}
 use Rattle.reader.specs.Reading.{World, recordCount, samplesGood}
-use Rattle.reader.specs.Calls.{banksFit, openNumber, opening, openOf, readNumber, outcome, readOf}
+use Rattle.reader.specs.Calls.{banksFit, openNumber, Opening, opening, openOf, readNumber, outcome, readOf}
 use Rattle.reader.specs.Contracts.{Ready, Done}
 use Rattle.reader.proofs.Laws.{records-size}
 
@@ -50,6 +50,12 @@ opens m b e =
     let t = passed-map (mapNumber m) _ e in
     (t .0, passed (banksFit m b) 4 0 (λ q. omega arith) (t .1) .0)
 
+-- a map that opening does not refuse is good
+pub opened-good : (m : List ℕ) (b : Banks) {number : ℕ} {s : Session} {after : Banks} → opening number s after ≡ openOf m b → number ≡ 0
+    → mapNumber m ≡ 0
+unfolding openOf
+opened-good m b e z = opens m b (sym (ap (λ (o : Opening). o .number) e) ∙ z) .0
+
 pub fits-mapped : (m : List ℕ) (b : Banks) → mapNumber m ≡ 0 → banksFit m b ≡ true → Mapped m b
 fits-mapped m b z f =
     let active = eqb (length (b .active)) (countOf m) in
@@ -59,6 +65,28 @@ fits-mapped m b z f =
       active-size = eqb-true (length (b .active)) (countOf m) (and-left active buffer f);
       buffer-size = eqb-true (length (b .buffer)) (countOf m) (and-right active buffer f);
     }
+
+-- a bound of the numbers: of the first, and of those after it where its test holds
+bounded : {most : ℕ} (t : Bool) {n next : ℕ} → n ≤ most → (t ≡ true → next ≤ most) → unless t n next ≤ most
+bounded true h rest = rest refl
+bounded false h rest = h
+
+pub open-number-most : (m : List ℕ) (b : Banks) → openNumber m b ≤ 4
+unfolding openNumber
+open-number-most m b =
+    bounded (eqb (mapNumber m) 0) (omega (arith, map-number-most m))
+    (λ t. bounded (banksFit m b) (omega arith)
+    (λ t. omega arith))
+
+-- where the room suffices, number 6 is not given
+pub read-number-most : (m : List ℕ) (w : World) (xs : List ℕ) (room : ℕ) → 6 * recordCount (w .session) xs ≤ room → readNumber m w xs room ≤ 5
+unfolding readNumber
+read-number-most m w xs room enough =
+    bounded (soundSession (w .session)) (omega arith)
+    (λ t. bounded (eqb (mapNumber m) 0) (omega (arith, map-number-most m))
+    (λ t. bounded (banksFit m (w .banks)) (omega arith)
+    (λ t. bounded (leb (length xs) 65536 && samplesGood xs) (omega arith)
+    (λ t. rw (le-leb (6 * recordCount (w .session) xs) room enough) (omega arith)))))
 
 -- what number 0 says: each test of the reader holds
 pub record ReadTests (m : List ℕ) (w : World) (xs : List ℕ) (room : ℕ) : Type 0 where
@@ -79,9 +107,10 @@ read-tests m w xs room e =
     record { sound = one .0; good-map = two .0; fits = four .0; samples = five .0; enough = six .0 }
 
 -- so nothing can be refused any more
-pub read-ready : (m : List ℕ) (w : World) (xs records : List ℕ) → readNumber m w xs (length records) ≡ 0 → Ready true m w xs records
-read-ready m w xs records e =
-    let t = read-tests m w xs (length records) e in
+pub read-ready : {put : Bool} (m : List ℕ) (w : World) (xs records : List ℕ) (n : ℕ) → n ≡ readNumber m w xs (length records) → n ≡ 0
+    → Ready put m w xs records
+read-ready m w xs records n e z =
+    let t = read-tests m w xs (length records) (sym e ∙ z) in
     record {
       sound = t .sound;
       few = leb-true (length xs) 65536 (and-left (leb (length xs) 65536) (samplesGood xs) (t .samples));
@@ -123,6 +152,12 @@ module _ (m : List ℕ) (w : World) (xs : List ℕ) (room : ℕ) where
     pub not-opened : openNumber m (w .banks) ≢ 0 → openNumber m (w .banks) ≡ readNumber m w xs room
     unfolding readNumber openNumber
     not-opened n = yes _ sound (refused-first (mapNumber m) (banksFit m (w .banks)) _ n)
+
+    -- the map is refused
+    pub map-first : (n : ℕ) → n ≡ mapNumber m → n ≢ 0 → n ≡ readNumber m w xs room
+    map-first n given z =
+        let e = map-refused m (w .banks) n given z in
+        e ∙ not-opened (λ q. z (e ∙ q))
 
     module _ (fits : openNumber m (w .banks) ≡ 0) where
       -- only the samples and the room are left to test
@@ -166,10 +201,10 @@ read-refused m w xs records n e z =
     no _ (ne-eqb (readNumber m w xs (length records)) 0 (λ q. z (e ∙ q))) (ap (λ (k : ℕ). outcome k w 0 records) e)
 
 -- a call that is done leaves what the pass over the samples gave
-pub read-done : (m : List ℕ) (w : World) (xs records : List ℕ) → readNumber m w xs (length records) ≡ 0
+pub read-done : (m : List ℕ) (w : World) (xs records : List ℕ) (n : ℕ) → n ≡ readNumber m w xs (length records) → n ≡ 0
     → (after : World) (size : ℕ) (new : List ℕ) → Done m w xs records after size new
     → outcome 0 after (size / 6) new ≡ readOf m w xs records
 unfolding readOf
-read-done m w xs records z after size new d =
+read-done m w xs records n e z after size new d =
     let count : size / 6 ≡ recordCount (w .session) xs = omega (arith, d .size-is, records-size m xs w) in
-    yes _ (eq-eqb (readNumber m w xs (length records)) 0 z) (rw (d .world-after, d .records-after, count))
+    yes _ (eq-eqb (readNumber m w xs (length records)) 0 (sym e ∙ z)) (rw (d .world-after, d .records-after, count))

@@ -16,7 +16,7 @@ use Rattle.session.specs.Step.{stepOf}
 use Rattle.session.specs.Event.{eventOf}
 use Rattle.session.proofs.Laws.{sound-step}
 use Rattle.trace.specs.Path.{Quiet, still, more, Next, none, one}
-use Rattle.reader.specs.Records.{recordsIn}
+use Rattle.records.specs.Records.{recordsIn}
 use Rattle.reader.specs.Reading.{recordCount, samplesGood}
 use Rattle.reader.proofs.Bound.{records-bound}
 

@@ -4,25 +4,14 @@ use mathlib.Core.Path.{_≡_}
 use mathlib.Core.Bool.{Bool, true}
 use mathlib.Core.List.{List}
 use lib.ListN.{length}
-use lib.Seq.{sets}
 use Rattle.bits.specs.Buffer.{filled}
-use Rattle.session.specs.declared.Settings.{Settings}
+use Rattle.settings.specs.declared.Settings.{Settings}
 use Rattle.session.specs.declared.Event.{Event}
 use Rattle.session.specs.State.{soundSession}
 use Rattle.registers.specs.Banks.{Banks, Mapped}
-use Rattle.reader.specs.Records.{recordOf, recordsIn}
-use Rattle.reader.specs.Reading.{World, banksAfter, runOf, recordsOf, recordCount}
-
--- before an event is taken: the map fits the banks, and there is room for the record
-pub record Taking (m : List ℕ) (b : Banks) (t : Settings) (e : Event) (old : List ℕ) (at : ℕ) : Type 0 where
-  pub mapped : Mapped m b
-  pub room : at + length (recordOf m b t e) ≤ length old
-
--- after it: both banks, the record in its place, and the place after it
-pub record Taken (m : List ℕ) (b : Banks) (t : Settings) (e : Event) (old : List ℕ) (at : ℕ) (after : Banks) (new : List ℕ) (next : ℕ) : Type 0 where
-  pub banks-after : after ≡ banksAfter m b e
-  pub records-after : new ≡ sets old at (recordOf m b t e)
-  pub next-place : next ≡ at + length (recordOf m b t e)
+use Rattle.records.specs.Records.{recordsIn}
+use Rattle.records.specs.Contracts.{Taking, Taken}
+use Rattle.reader.specs.Reading.{World, runOf, recordsOf, recordCount}
 
 -- before an event is taken, or only counted where no record is put
 pub record Passing (put : Bool) (m : List ℕ) (b : Banks) (t : Settings) (e : Event) (old : List ℕ) (at : ℕ) : Type 0 where

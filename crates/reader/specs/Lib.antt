@@ -1,4 +1,3 @@
-pub mod Records
 pub mod Reading
 pub mod Calls
 pub mod Contracts

@@ -1,16 +1,14 @@
 -- What a list of samples does: the session and the banks after it, and its records in order of time.
 use Prim.Native.Nat.{ℕ, _+_}
-use mathlib.Core.Bool.{Bool, true, cond, _&&_}
+use mathlib.Core.Bool.{Bool, true, _&&_}
 use mathlib.Core.List.{List, [], _∷_, _++_}
 use lib.Dec.{leb}
 use Rattle.session.specs.declared.Session.{Session}
-use Rattle.session.specs.declared.Event.{Event}
-use Rattle.session.specs.declared.Event.the-variants.{Nothing, Whole, Aborted}
 use Rattle.session.specs.Step.{stepOf}
 use Rattle.session.specs.Event.{eventOf}
 use Rattle.registers.specs.Banks.{Banks, banks}
-use Rattle.registers.specs.Write.{writeBanks}
-use Rattle.reader.specs.Records.{recordOf, recordsIn}
+use Rattle.records.specs.BanksAfter.{banksAfter}
+use Rattle.records.specs.Records.{recordOf, recordsIn}
 
 -- a session and its banks
 pub record World : Type 0 where
@@ -19,12 +17,6 @@ pub record World : Type 0 where
 
 abbrev pub world : Session → List ℕ → List ℕ → World
 world s active buffer = record { session = s; banks = banks active buffer }
-
--- Document 01, "What a whole byte does": a whole byte is written or read; a broken one does nothing.
-unfoldable pub banksAfter : List ℕ → Banks → Event → Banks
-banksAfter m b Nothing = b
-banksAfter m b (Whole read a v) = cond read b (writeBanks m b a v)
-banksAfter m b (Aborted a bits inData) = b
 
 -- one sample
 abbrev pub worldAfter : List ℕ → World → ℕ → World

@@ -9,7 +9,6 @@ ghost use Rattle.registers.specs.Banks.{banks};
 ghost use Rattle.reader.specs.Reading.{world};
 ghost use Rattle.reader.specs.Calls.{openNumber, opening, openOf, readNumber, outcome, readOf};
 
-mod records;
 mod room;
 mod run;
 
@@ -62,9 +61,8 @@ pub fn open(map: &[u8], active: &mut [u8], buffer: &mut [u8]) -> Opened
     }
 }
 
-// The number of reading, by that of the map test: 0, or the refusal.
+// The number of reading on a good map: 0, or the refusal.
 fn read_refusal(
-    number: u8,
     map: &[u8],
     session: Session,
     active: &[u8],
@@ -72,13 +70,13 @@ fn read_refusal(
     samples: &[u8],
     room: usize,
 ) -> u8
-    requires { ⌜ number ≡ mapNumber (now map) ⌝ }
+    requires { ⌜ mapNumber (now map) ≡ 0 ⌝ }
     ensures { λ r. ⌜ r ≡ readNumber (now (map .entry)) (world session (now (active .entry)) (now (buffer .entry))) (now (samples .entry)) room ⌝ }
 {
     if !session.sound() {
         return 1;
     }
-    let opens = open_refusal(number, map, active, buffer);
+    let opens = open_refusal(0, map, active, buffer);
     if opens != 0 {
         return opens;
     }
@@ -94,9 +92,9 @@ fn read_refusal(
     6
 }
 
-// Reads samples, by the number of the map test.
-fn read_by(
-    number: u8,
+// Reads samples on a map that is known to be good, as opening has shown it. This is no public call: it is for a program that
+// reads one trace in many pieces and tests the map once.
+pub fn read_tested(
     map: &[u8],
     session: Session,
     active: &mut [u8],
@@ -104,10 +102,10 @@ fn read_by(
     samples: &[u8],
     records: &mut [u8],
 ) -> Answer
-    requires { ⌜ number ≡ mapNumber (now map) ⌝ }
+    requires { ⌜ mapNumber (now map) ≡ 0 ⌝ }
     ensures { λ r. ⌜ outcome (r .number) (world (r .session) (now (active .exit)) (now (buffer .exit))) (r .count) (now (records .exit)) ≡ readOf (now (map .entry)) (world session (now (active .entry)) (now (buffer .entry))) (now (samples .entry)) (now (records .entry)) ⌝ }
 {
-    let refused = read_refusal(number, map, session, active, buffer, samples, records.len());
+    let refused = read_refusal(map, session, active, buffer, samples, records.len());
     if refused != 0 {
         return Answer {
             number: refused,
@@ -135,29 +133,20 @@ pub fn read(
 ) -> Answer
     ensures { λ r. ⌜ outcome (r .number) (world (r .session) (now (active .exit)) (now (buffer .exit))) (r .count) (now (records .exit)) ≡ readOf (now (map .entry)) (world session (now (active .entry)) (now (buffer .entry))) (now (samples .entry)) (now (records .entry)) ⌝ }
 {
-    read_by(
-        map_test(map),
-        map,
-        session,
-        active,
-        buffer,
-        samples,
-        records,
-    )
-}
-
-// The same on a map that is known to be good, as opening has shown it. This is no public call: it is for a program that reads
-// one trace in many pieces and tests the map once.
-pub fn read_tested(
-    map: &[u8],
-    session: Session,
-    active: &mut [u8],
-    buffer: &mut [u8],
-    samples: &[u8],
-    records: &mut [u8],
-) -> Answer
-    requires { ⌜ mapNumber (now map) ≡ 0 ⌝ }
-    ensures { λ r. ⌜ outcome (r .number) (world (r .session) (now (active .exit)) (now (buffer .exit))) (r .count) (now (records .exit)) ≡ readOf (now (map .entry)) (world session (now (active .entry)) (now (buffer .entry))) (now (samples .entry)) (now (records .entry)) ⌝ }
-{
-    read_by(0, map, session, active, buffer, samples, records)
+    let refused = map_test(map);
+    if refused == 0 {
+        return read_tested(map, session, active, buffer, samples, records);
+    }
+    if session.sound() {
+        return Answer {
+            number: refused,
+            session: session,
+            count: 0,
+        };
+    }
+    Answer {
+        number: 1,
+        session: session,
+        count: 0,
+    }
 }

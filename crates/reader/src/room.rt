@@ -6,8 +6,8 @@ ghost use lib.Dec.{leb};
 ghost use lib.ListN.{length};
 ghost use Rattle.session.specs.State.{soundSession};
 ghost use Rattle.reader.specs.Reading.{recordCount, samplesGood};
-use crate::records::RECORD;
 use crate::run::run_samples;
+use records::RECORD;
 use session::Session;
 
 // Whether no sample has any of bits 4 to 7.

@@ -2,12 +2,12 @@
 ghost use Rattle.registers.specs.Banks.{banks};
 ghost use Rattle.reader.specs.Reading.{world};
 ghost use Rattle.reader.specs.Contracts.{Passing, Past, Ready, Ran};
-use crate::records::RECORD;
-use crate::records::records_in;
-use crate::records::take_event;
+use records::RECORD;
+use records::records_in;
+use records::take_event;
 use session::Event;
 use session::Session;
-use session::Settings;
+use settings::Settings;
 use trace::next_event;
 
 // Where a pass ended: the session, and how many bytes the records have.

@@ -6,8 +6,8 @@ use lib.ListN.{getD}
 use lib.Dec.{eqb}
 use Rattle.regmap.specs.declared.Entry.{Entry}
 use Rattle.regmap.specs.Format.{registerAt, blank, buffered, control}
-use Rattle.session.specs.declared.Settings.{Settings}
-use Rattle.session.specs.Settings.{controlReading}
+use Rattle.settings.specs.declared.Settings.{Settings}
+use Rattle.settings.specs.Settings.{controlReading}
 use Rattle.registers.specs.Banks.{Banks}
 
 unfoldable pub dueByte : List ℕ → Banks → Settings → ℕ → ℕ

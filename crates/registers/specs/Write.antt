@@ -8,8 +8,8 @@ use lib.Dec.{eqb}
 use Rattle.bits.specs.Bits.{bitAt, merged}
 use Rattle.regmap.specs.declared.Entry.{Entry}
 use Rattle.regmap.specs.Format.{registerAt, plain, buffered, control}
-use Rattle.session.specs.declared.Settings.{Settings}
-use Rattle.session.specs.Settings.{resets, settingsAfter, controlReading}
+use Rattle.settings.specs.declared.Settings.{Settings}
+use Rattle.settings.specs.Settings.{resets, settingsAfter, controlReading}
 use Rattle.registers.specs.declared.Written.{Written}
 use Rattle.registers.specs.Banks.{Banks, banks, defaultBanks, transferred}
 

@@ -6,7 +6,7 @@ use regmap::BLANK;
 use regmap::BUFFERED;
 use regmap::CONTROL;
 use regmap::entry_at;
-use session::Settings;
+use settings::Settings;
 
 // The byte that a read of the register at an address is due.
 pub fn due_byte(map: &[u8], active: &[u8], buffer: &[u8], settings: Settings, address: u16) -> u8

@@ -13,8 +13,8 @@ use regmap::BUFFERED;
 use regmap::CONTROL;
 use regmap::PLAIN;
 use regmap::entry_at;
-use session::Settings;
-use session::asks_reset;
+use settings::Settings;
+use settings::asks_reset;
 
 // The effects of a write.
 const EFFECT_NONE: u8 = 0;
@@ -45,18 +45,13 @@ fn write_control(map: &[u8], active: &mut [u8], buffer: &mut [u8], address: u16,
     ensures effect { λ r. ⌜ r ≡ controlEffect address v ⌝ }
     ensures banks_after { λ r. ⌜ banks (now (active .exit)) (now (buffer .exit)) ≡ controlBanks (now (map .entry)) (banks (now (active .entry)) (now (buffer .entry))) address v ⌝ }
 {
-    if address == 0x0000 {
-        if asks_reset(v) {
-            reset(map, active, buffer);
-            return EFFECT_RESET;
-        }
-        return EFFECT_CONTROL;
+    if (address == 0x0000) & asks_reset(v) {
+        reset(map, active, buffer);
+        return EFFECT_RESET;
     }
-    if address == 0x000F {
-        if bit_at(v, 0) {
-            transfer(map, active, buffer);
-            return EFFECT_TRANSFER;
-        }
+    if (address == 0x000F) & bit_at(v, 0) {
+        transfer(map, active, buffer);
+        return EFFECT_TRANSFER;
     }
     EFFECT_CONTROL
 }

@@ -51,6 +51,14 @@ both-pass true true h = (refl, refl)
 both-pass true false h = absurd (omega arith)
 both-pass false b h = absurd (omega arith)
 
+-- the numbers of the map test
+pub map-number-most : (m : List ℕ) → mapNumber m ≤ 3
+unfolding mapNumber
+map-number-most m =
+    each (λ (n : ℕ). n ≤ 3) (every (formTests m))
+    (λ t. each (λ (n : ℕ). n ≤ 3) (entriesGood m 0 (countOf m) && every (furtherTests m)) (λ t. omega arith) (λ t. omega arith))
+    (λ t. omega arith)
+
 module _ (m : List ℕ) (good : mapNumber m ≡ 0) where
   passed : (every (formTests m) ≡ true) × ((entriesGood m 0 (countOf m) && every (furtherTests m)) ≡ true)
   unfolding mapNumber

@@ -1,20 +1,20 @@
 -- A table against its rule, texts one after another, the lines of records, and the digits of a number.
-use mathlib.Core.Path.{_≡_, refl, sym, ap, _∙_}
-use mathlib.Core.List.{List, [], _∷_, _++_}
+use mathlib.Core.Path.{_≡_, refl, sym, ap, subst, _∙_}
+use mathlib.Core.List.{List, [], _∷_, _++_, append-assoc}
 use Prim.Native.Nat.{ℕ, zero, suc, _+_, _-_, _*_, _/_, _%_, _^_, _<_, _≤_, min}
 use native.Mathlib.Omega.{arith}
 use native.Mathlib.Numerals.{unary-clauses, sub-one}
 use native.Mathlib.Nat.{add-zero, add-suc, suc-add, pow-suc, one-le-pow, pow-le-pow-right, lt-of-not-le}
-use lib.ListN.{length, getD, drop, length-append}
-use lib.Seq.{sets, length-sets, length-take-le, drop-drop, getD-drop}
+use lib.ListN.{length, getD, take, drop, set, length-append, length-drop}
+use lib.Seq.{sets, length-sets, length-take-le, take-all, drop-drop}
 use lib.Dec.{eqb}
 use borrow.Author.Tests.{eq-eqb, ne-eqb, lt-ltb}
 use Rattle.io.specs.Digits.{digits, glyph, Fewest}
 use Rattle.bits.specs.Buffer.{filled}
 use Rattle.bits.proofs.Buffer.{sets-append, sets-filled}
 use Rattle.bits.proofs.Cases.{each}
-use Rattle.report.specs.Numbers.{digitOf, decimalIn, decimalOf}
-use Rattle.report.specs.Text.{lineOf, linesOf}
+use Rattle.report.specs.Numbers.{bytesOf, digitOf, decimalIn, decimalOf}
+use Rattle.report.specs.Text.{lineOf, linesOf, countLine}
 use Rattle.report.specs.Put.{Placed, Printed, Listed}
 
 -- a rule at k places, from i on
@@ -36,6 +36,23 @@ placed-next {a} {b} {at} {old} p q = record {
   buffer = q .buffer ∙ rw (p .place, p .buffer) (sym (sets-append a b old at));
 }
 
+-- one byte at a place
+pub placed-byte : (b at : ℕ) (old : List ℕ) → Placed (b ∷ []) at old (set old at b) (at + 1)
+placed-byte b at old = record { place = refl; buffer = refl }
+
+two-numbers : (a m b c n d : List ℕ) → (a ++ m ++ b) ++ (c ++ n ++ d) ≡ a ++ m ++ (b ++ c) ++ n ++ d
+two-numbers a m b c n d = simp append-assoc
+
+-- two words, each with its number, are the last line
+pub placed-counts : (records samples : ℕ) {at : ℕ} {old mid new : List ℕ} {i j : ℕ}
+    → Placed (bytesOf "records " ++ decimalOf records ++ bytesOf " ") at old mid i
+    → Placed (bytesOf "samples " ++ decimalOf samples ++ bytesOf "\n") i mid new j
+    → Placed (countLine records samples) at old new j
+unfolding countLine
+placed-counts records samples {at} {old} {mid} {new} {i} {j} p q =
+    let text = two-numbers (bytesOf "records ") (decimalOf records) (bytesOf " ") (bytesOf "samples ") (decimalOf samples) (bytesOf "\n") in
+    subst (λ (l : List ℕ). Placed l at old new j) text (placed-next p q)
+
 -- a text at the start of a buffer
 pub placed-printed : {line old new : List ℕ} {n : ℕ} → n ≤ length old → Placed line 0 old new n → Printed line old new n
 placed-printed {line} {old} {new} {n} h p = record {
@@ -47,16 +64,11 @@ placed-printed {line} {old} {new} {n} h p = record {
     fits : n ≤ length new
     fits = omega (arith, h, ap length (p .buffer) ∙ length-sets old 0 line)
 
--- the six bytes of the record at a place
-pub line-at : (records : List ℕ) (i : ℕ)
-    → lineOf
-    (getD records i 0 ∷ getD records (i + 1) 0 ∷ getD records (i + 2) 0 ∷ getD records (i + 3) 0 ∷ getD records (i + 4) 0
-    ∷ getD records (i + 5) 0 ∷ [])
-    ≡ lineOf (drop i records)
-unfolding lineOf
-line-at records i = simp (getD-drop, add-zero)
+-- a slice from a place on is the rest of its list
+pub from-on : (l : List ℕ) (i : ℕ) → take (length l - i) (drop i l) ≡ drop i l
+from-on l i = take-all (length l - i) (drop i l) (omega (arith, length-drop i l))
 
-line-length : (r : List ℕ) → length (lineOf r) ≡ 15
+pub line-length : (r : List ℕ) → length (lineOf r) ≡ 15
 unfolding lineOf
 line-length r = refl
 
@@ -120,12 +132,16 @@ module _ {records old new : List ℕ} {all n : ℕ} (k : Listing records old new
       none = omega arith
 
 -- a number has at most as many digits as the bound
-pub decimal-length : (k n : ℕ) → length (decimalIn k n) ≤ k
+decimal-length : (k n : ℕ) → length (decimalIn k n) ≤ k
 unfolding decimalIn
 decimal-length zero n = omega arith
 decimal-length (suc k) n =
     simp length-append
     (each (λ (l : List ℕ). length l + 1 ≤ suc k) (eqb (n / 10) 0) (λ e. omega arith) (λ e. omega (arith, decimal-length k (n / 10))))
+
+-- a number with the byte that ends it
+pub number-length : (n end : ℕ) → length (decimalOf n ++ (end ∷ [])) ≤ 21
+number-length n end = simp length-append (omega (arith, decimal-length 20 n))
 
 glyph-digit : (n : ℕ) → glyph (n % 10) ≡ digitOf (n % 10)
 glyph-digit n = rw (lt-ltb (n % 10) 10 (omega arith))

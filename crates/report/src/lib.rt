@@ -1,6 +1,6 @@
 // The text that the bench program prints.
 ghost use mathlib.Core.Path.{_≡_};
-ghost use mathlib.Core.List.{_∷_, []};
+ghost use mathlib.Core.List.{_∷_, [], _++_};
 ghost use Prim.Native.Nat.{_+_, _<_, _≤_, min};
 ghost use lib.Seq.{sets};
 ghost use lib.ListN.{length, drop};
@@ -37,12 +37,17 @@ fn letter(kind: u8) -> u8
     b'C'
 }
 
-// The line of a record.
-fn line_of(kind: u8, high: u8, low: u8, third: u8, fourth: u8, fifth: u8) -> [u8; LINE]
-    ensures { λ r. ⌜ r ≡ lineOf (kind ∷ high ∷ low ∷ third ∷ fourth ∷ fifth ∷ []) ⌝ }
+// The line of the record at the start of a slice.
+fn line_of(bytes: &[u8]) -> [u8; LINE]
+    requires { ⌜ 6 ≤ length (now bytes) ⌝ }
+    ensures { λ r. ⌜ r ≡ lineOf (now (bytes .entry)) ⌝ }
 {
+    let high = bytes[1];
+    let low = bytes[2];
+    let third = bytes[3];
+    let fourth = bytes[4];
     [
-        letter(kind),
+        letter(bytes[0]),
         b' ',
         digit(high / 16),
         digit(high % 16),
@@ -55,25 +60,9 @@ fn line_of(kind: u8, high: u8, low: u8, third: u8, fourth: u8, fifth: u8) -> [u8
         digit(fourth / 16),
         digit(fourth % 16),
         b' ',
-        digit(fifth % 16),
+        digit(bytes[5] % 16),
         b'\n',
     ]
-}
-
-// The line of the record that stands at a place, put at a place of the buffer.
-fn put_line(records: &[u8], from: usize, out: &mut [u8], at: usize)
-    requires { ⌜ (from + 6 ≤ length (now records)) × (at + 15 ≤ length (now out)) ⌝ }
-    ensures { λ _. ⌜ now (out .exit) ≡ sets (now (out .entry)) at (lineOf (drop from (now (records .entry)))) ⌝ }
-{
-    let line = line_of(
-        records[from],
-        records[from + 1],
-        records[from + 2],
-        records[from + 3],
-        records[from + 4],
-        records[from + 5],
-    );
-    put(&line, out, at);
 }
 
 // The lines of as many records as there are and as fit; how many that is.
@@ -83,7 +72,7 @@ pub fn put_lines(records: &[u8], out: &mut [u8]) -> usize
     let lines = least(records.len() / RECORD, out.len() / LINE);
     let mut n = 0;
     while n < lines {
-        put_line(records, n * RECORD, out, n * LINE);
+        put(&line_of(&records[n * RECORD..]), out, n * LINE);
         n += 1;
     }
     lines
@@ -109,41 +98,37 @@ fn put(bytes: &[u8], out: &mut [u8], at: usize) -> usize
     at + i
 }
 
-// A number in decimal, put at a place; the place after it.
-fn put_decimal(n: u64, out: &mut [u8], at: usize) -> usize
-    requires { ⌜ at + 20 ≤ length (now out) ⌝ }
-    ensures { λ r. ⌜ Placed (decimalOf n) at (now (out .entry)) (now (out .exit)) r ⌝ }
+// A word, a number in decimal and a byte to end it, put at a place; the place after them.
+fn put_number(word: &[u8], n: u64, end: u8, out: &mut [u8], at: usize) -> usize
+    requires { ⌜ at + length (now word) + 21 ≤ length (now out) ⌝ }
+    ensures { λ r. ⌜ Placed (now (word .entry) ++ decimalOf n ++ (end ∷ [])) at (now (out .entry)) (now (out .exit)) r ⌝ }
 {
     let mut digits = [0u8; 20];
     let k = io::decimal(n, &mut digits);
-    put(&digits[..k], out, at)
+    let at = put(word, out, at);
+    let at = put(&digits[..k], out, at);
+    out[at] = end;
+    at + 1
 }
 
 // The first line, with the number of registers; how many bytes it is.
 pub fn put_map_line(n: u64, out: &mut [u8; 64]) -> usize
     ensures { λ r. ⌜ Printed (mapLine n) (now (out .entry)) (now (out .exit)) r ⌝ }
 {
-    let at = put(b"map ", out, 0);
-    let at = put_decimal(n, out, at);
-    put(b"\n", out, at)
+    put_number(b"map ", n, b'\n', out, 0)
 }
 
 // The last line, with the numbers of records and samples; how many bytes it is.
 pub fn put_count_line(records: u64, samples: u64, out: &mut [u8; 64]) -> usize
     ensures { λ r. ⌜ Printed (countLine records samples) (now (out .entry)) (now (out .exit)) r ⌝ }
 {
-    let at = put(b"records ", out, 0);
-    let at = put_decimal(records, out, at);
-    let at = put(b" samples ", out, at);
-    let at = put_decimal(samples, out, at);
-    put(b"\n", out, at)
+    let at = put_number(b"records ", records, b' ', out, 0);
+    put_number(b"samples ", samples, b'\n', out, at)
 }
 
 // The line of a refusal, with its number; how many bytes it is.
 pub fn put_refused_line(number: u8, out: &mut [u8; 64]) -> usize
     ensures { λ r. ⌜ Printed (refusedLine number) (now (out .entry)) (now (out .exit)) r ⌝ }
 {
-    let at = put(b"refused ", out, 0);
-    let at = put_decimal(number as u64, out, at);
-    put(b"\n", out, at)
+    put_number(b"refused ", number as u64, b'\n', out, 0)
 }

@@ -6,11 +6,12 @@ use native.Mathlib.Omega.{arith}
 use lib.ListN.{length}
 use borrow.Author.Tests.{eq-eqb, ne-eqb}
 use Rattle.bits.proofs.Cases.{yes, no}
-use Rattle.sender.specs.Order.{Order}
-use Rattle.sender.specs.Samples.{samplesOf}
-use Rattle.sender.specs.Calls.{sendNumber, sending, sendOf}
+use Rattle.order.specs.Order.{Order}
+use Rattle.order.specs.Samples.{samplesOf}
+use Rattle.order.specs.Number.{sendNumber}
+use Rattle.sender.specs.Calls.{sending, sendOf}
 use Rattle.sender.specs.Run.{Put}
-use Rattle.sender.proofs.Laws.{admitted}
+use Rattle.order.proofs.Laws.{admitted}
 use Rattle.sender.proofs.Putting.{put-filled}
 
 module _ (o : Order) (old : List ℕ) where

@@ -1,4 +1,2 @@
-pub mod Order
-pub mod Samples
 pub mod Calls
 pub mod Run

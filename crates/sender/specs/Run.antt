@@ -6,8 +6,8 @@ use mathlib.Core.List.{List, [], _∷_}
 use lib.ListN.{length}
 use lib.Seq.{sets}
 use Rattle.sender.specs.declared.Run.{Run}
-use Rattle.sender.specs.Order.{Order, isRead, lsbFirst, ascending, singleInstruction, runFrom}
-use Rattle.sender.specs.Samples.{instructionOf, bitsOf, byteBits, runBits, clocked}
+use Rattle.order.specs.Order.{Order, isRead, lsbFirst, ascending, singleInstruction, runFrom}
+use Rattle.order.specs.Samples.{instructionOf, bitsOf, byteBits, runBits, clocked}
 
 -- the direction of an order, and its settings by name
 abbrev pub runOf : Order → Run

@@ -2,15 +2,14 @@
 ghost use mathlib.Core.Path.{_≡_};
 ghost use mathlib.Core.List.{[]};
 ghost use Prim.Native.Nat.{_≤_};
-ghost use Rattle.sender.specs.Order.{order};
+ghost use Rattle.order.specs.Order.{order};
 ghost use Rattle.sender.specs.Calls.{sending, sendOf};
 ghost use Rattle.sender.specs.Run.{runOf};
 
-mod number;
 mod samples;
 
 use bits::bit_at;
-use number::number_of;
+use order::number_of;
 use samples::put_samples;
 
 // What a call of the sender answers: the number, and how many samples it put.

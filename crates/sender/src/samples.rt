@@ -5,13 +5,13 @@ ghost use mathlib.Core.List.{[], _∷_};
 ghost use Prim.Native.Nat.{_+_, _-_, _*_, _<_, _≤_};
 ghost use lib.ListN.{length, getD};
 ghost use Rattle.bits.specs.Bits.{bitAt};
-ghost use Rattle.sender.specs.Order.{order, sentOf};
-ghost use Rattle.sender.specs.Samples.{bitsOf, clocked, instructionOf, samplesOf};
-ghost use Rattle.sender.specs.Calls.{sendNumber};
+ghost use Rattle.order.specs.Order.{order, sentOf};
+ghost use Rattle.order.specs.Samples.{bitsOf, clocked, instructionOf, samplesOf};
+ghost use Rattle.order.specs.Number.{sendNumber};
 ghost use Rattle.sender.specs.Run.{openingSamples, byteSamples, runSamples, closingSamples, Put};
 use crate::Run;
 use crate::run_of;
-use session::next_address;
+use settings::next_address;
 
 // The place in a value of the bit that travels as number i of so many.
 fn place_of(lsb: bool, width: u8, i: u8) -> u8

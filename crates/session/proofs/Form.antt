@@ -8,14 +8,15 @@ use borrow.Author.Tests.{ltb-true, lt-ltb, leb-true, le-leb, eqb-true, not-true,
 use Rattle.bits.specs.Tests.{every}
 use Rattle.bits.proofs.Cases.{each, AllTrue, every-true}
 use Rattle.bits.proofs.Laws.{shifted-lt}
+use Rattle.settings.specs.declared.Settings.{Settings}
+use Rattle.settings.specs.declared.InUse.{InUse}
+use Rattle.settings.specs.Settings.{inUseOf}
+use Rattle.settings.proofs.Laws.{next-lt}
 use Rattle.session.specs.declared.Phase.{Phase}
 use Rattle.session.specs.declared.Phase.the-variants.{Rest, Instruction, Data}
-use Rattle.session.specs.declared.Settings.{Settings}
-use Rattle.session.specs.declared.InUse.{InUse}
 use Rattle.session.specs.declared.Session.{Session}
-use Rattle.session.specs.Settings.{inUseOf}
 use Rattle.session.specs.State.{resting, instructing, inData, soundTests, soundSession}
-use Rattle.session.specs.Step.{csbOf, sclkOf, sdioOf, takesBit, valueWith, withInstructionBit, nextAddress, settingsOnByte, afterByte, withDataBit, dataLine, stepOf}
+use Rattle.session.specs.Step.{csbOf, sclkOf, sdioOf, takesBit, valueWith, withInstructionBit, settingsOnByte, afterByte, withDataBit, dataLine, stepOf}
 
 pub data Form : Session → Type 0 where
   rests : (sclk : Bool) (t : Settings) → Form (resting sclk t)
@@ -104,11 +105,6 @@ form-instruction s b h g =
     (λ e. instructs true _ _ _ _ (omega (arith, ltb-true (s .bits) 15 e))
     (shifted-lt (s .used .lsb) (s .value) (s .bits) b g))
     (λ e. has-data true _ _ _ _ _ _ (lit< tt) (lit< tt) (omega arith))
-
--- the address after a byte has 15 bits
-pub next-lt : (up : Bool) (a : ℕ) → nextAddress up a < 0x8000
-next-lt true a = omega arith
-next-lt false a = omega arith
 
 form-after : (s : Session) (t : Settings) → Form (afterByte s t)
 form-after s t =

@@ -1,19 +1,18 @@
 -- A sound session is fit, and each sample keeps it fit and sound; what is known of a session at rest, and of a byte of data.
-use Prim.Native.Nat.{ℕ, _+_, _*_, _<_, _≤_}
+use Prim.Native.Nat.{ℕ, _+_, _^_, _<_}
 use mathlib.Core.Bool.{Bool, true, false, false≢true}
 use mathlib.Core.Path.{_≡_, refl}
 use native.Mathlib.Omega.{arith}
 use native.Mathlib.Nat.{lt-of-lt-of-le}
 use lib.Dec.{lit<}
 use lib.Pow.{pow-mono}
-use Rattle.bits.specs.Bits.{bitOf}
 use Rattle.bits.proofs.Cases.{each}
 use Rattle.bits.proofs.Laws.{shifted-lt}
+use Rattle.settings.specs.Settings.{inUseOf}
 use Rattle.session.specs.declared.Phase.{Phase}
 use Rattle.session.specs.declared.Phase.the-variants.{Rest, Instruction, Data}
 use Rattle.session.specs.declared.Session.{Session}
 use Rattle.session.specs.State.{withLevels, openedSession, soundSession, isRest, widthOf, Fit}
-use Rattle.session.specs.Settings.{inUseOf}
 use Rattle.session.specs.Step.{sclkOf, sdioOf, csbFalls, csbRises, takesBit, valueWith, dataLine, withBit, stepOf}
 use Rattle.session.specs.Event.{isData}
 use Rattle.session.proofs.Form.{Form, rests, instructs, has-data, form-sound, sound-form, form-instruction, form-data, form-step}
@@ -74,7 +73,6 @@ few-bits Rest n h = omega arith
 few-bits Instruction n h = h
 few-bits Data n h = omega arith
 
--- a flag is at most its mask
-pub flag-le : (on : Bool) (mask : ℕ) → bitOf on * mask ≤ mask
-flag-le true mask = omega arith
-flag-le false mask = omega arith
+-- a fit session has room for one more bit
+pub room-for-bit : (s : Session) → Fit s → (s .bits < 16) × (s .value < 2 ^ s .bits)
+room-for-bit s f = (few-bits (s .phase) (s .bits) (f .unfinished), f .small)

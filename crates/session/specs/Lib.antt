@@ -1,4 +1,3 @@
-pub mod Settings
 pub mod State
 pub mod Step
 pub mod Event

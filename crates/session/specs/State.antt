@@ -6,12 +6,12 @@ use mathlib.Core.List.{List, [], _∷_}
 use lib.Dec.{eqb, ltb, leb}
 use Rattle.bits.specs.Bits.{bitAt}
 use Rattle.bits.specs.Tests.{every}
+use Rattle.settings.specs.declared.Settings.{Settings}
+use Rattle.settings.specs.declared.InUse.{InUse}
+use Rattle.settings.specs.Settings.{inUseOf}
 use Rattle.session.specs.declared.Phase.{Phase}
 use Rattle.session.specs.declared.Phase.the-variants.{Rest, Instruction, Data}
-use Rattle.session.specs.declared.Settings.{Settings}
-use Rattle.session.specs.declared.InUse.{InUse}
 use Rattle.session.specs.declared.Session.{Session}
-use Rattle.session.specs.Settings.{inUseOf}
 
 abbrev pub noneInUse : InUse
 noneInUse = record { lsb = false; ascending = false; sdo = false; single = false }

@@ -3,11 +3,11 @@ use Prim.Native.Nat.{ℕ, _+_, _%_}
 use mathlib.Core.Bool.{Bool, true, cond, not, _&&_}
 use lib.Dec.{ltb, leb}
 use Rattle.bits.specs.Bits.{bitAt, shiftedIn}
+use Rattle.settings.specs.declared.Settings.{Settings}
+use Rattle.settings.specs.Settings.{nextAddress, settingsAfter}
 use Rattle.session.specs.declared.Phase.{Phase}
 use Rattle.session.specs.declared.Phase.the-variants.{Rest, Instruction, Data}
-use Rattle.session.specs.declared.Settings.{Settings}
 use Rattle.session.specs.declared.Session.{Session}
-use Rattle.session.specs.Settings.{settingsAfter}
 use Rattle.session.specs.State.{resting, instructing, starting, inData, withLevels}
 
 -- the levels of a sample
@@ -44,10 +44,6 @@ unfoldable pub withInstructionBit : Session → Bool → Session
 withInstructionBit s b =
     cond (ltb (s .bits) 15) (instructing true (s .bits + 1) (valueWith s b) (s .settings) (s .used))
     (inData true 0 0 (valueWith s b % 0x8000) (leb 0x8000 (valueWith s b)) (s .settings) (s .used))
-
--- The address after a whole byte: up by one or down by one, modulo 0x8000.
-abbrev pub nextAddress : Bool → ℕ → ℕ
-nextAddress ascending a = cond ascending ((a + 1) % 0x8000) ((a + 0x7FFF) % 0x8000)
 
 -- the settings after a whole byte v: a read changes none
 abbrev pub settingsOnByte : Session → ℕ → Settings

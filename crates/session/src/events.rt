@@ -1,11 +1,14 @@
 // What a sample completes.
 ghost use mathlib.Core.Path.{_≡_};
 ghost use Rattle.session.specs.State.{Fit};
-ghost use Rattle.session.specs.Event.{isData, bitEvent, abortEvent, eventOf};
+ghost use Rattle.session.specs.Event.{isData, eventOf};
 use crate::Event;
 use crate::Phase;
 use crate::Session;
+use crate::step::data_line;
+use crate::step::takes_bit;
 use bits::bit_at;
+use bits::shift_in;
 
 // Whether the phase is data.
 pub fn is_data(phase: Phase) -> bool
@@ -19,52 +22,33 @@ pub fn is_data(phase: Phase) -> bool
 }
 
 impl Session {
-    // What one more bit completes: the eighth of data makes a byte whole.
-    fn bit_event(self, sample: u8) -> Event
+    // What the sample completes: the eighth bit of data makes a byte whole, and the rise of CSB breaks off what has bits.
+    pub fn event(self, sample: u8) -> Event
         requires { ⌜ Fit self ⌝ }
-        ensures { λ r. ⌜ r ≡ bitEvent self sample ⌝ }
+        ensures { λ r. ⌜ r ≡ eventOf self sample ⌝ }
     {
         let phase = self.phase;
-        if is_data(phase) {
-            if self.bits < 7 {
+        let data = is_data(phase);
+        if takes_bit(self.csb, self.sclk, sample) {
+            if !data | (self.bits < 7) {
                 return Event::Nothing;
             }
-            let value = self.value_with(self.data_line(sample));
+            let bit = data_line(self.read, self.used.sdo, sample);
+            let value = shift_in(self.used.lsb, self.value, self.bits, bit);
             return Event::Whole {
                 read: self.read,
                 address: self.address,
                 byte: value as u8,
             };
         }
-        Event::Nothing
-    }
-
-    // What the rise of CSB breaks off.
-    fn abort_event(self) -> Event
-        ensures { λ r. ⌜ r ≡ abortEvent self ⌝ }
-    {
-        if self.bits == 0 {
+        let rises = !self.csb & bit_at(sample, 0);
+        if !rises | (self.bits == 0) {
             return Event::Nothing;
         }
-        let phase = self.phase;
         Event::Aborted {
             address: self.address,
             bits: self.bits,
-            data: is_data(phase),
+            data: data,
         }
-    }
-
-    // What the sample completes.
-    pub fn event(self, sample: u8) -> Event
-        requires { ⌜ Fit self ⌝ }
-        ensures { λ r. ⌜ r ≡ eventOf self sample ⌝ }
-    {
-        if self.takes_bit(sample) {
-            return self.bit_event(sample);
-        }
-        if !self.csb & bit_at(sample, 0) {
-            return self.abort_event();
-        }
-        Event::Nothing
     }
 }

@@ -3,37 +3,19 @@
 ghost use mathlib.Core.Path.{_≡_};
 ghost use Rattle.session.specs.State.{openedSession};
 
-mod control;
 mod events;
 mod sound;
 mod state;
 mod step;
 
-pub use control::asks_reset;
 pub use events::is_data;
-pub use step::next_address;
+use settings::InUse;
+use settings::Settings;
 
 pub enum Phase {
     Rest,
     Instruction,
     Data,
-}
-
-pub struct Settings {
-    pub lsb: bool,
-    pub ascending: bool,
-    pub sdo: bool,
-    pub single: bool,
-    pub readback: bool,
-    pub slow: bool,
-}
-
-// The settings in use: those that an instruction took when it started.
-pub struct InUse {
-    pub lsb: bool,
-    pub ascending: bool,
-    pub sdo: bool,
-    pub single: bool,
 }
 
 pub struct Session {

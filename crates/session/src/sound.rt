@@ -2,9 +2,7 @@
 ghost use mathlib.Core.Path.{_≡_};
 ghost use Prim.Native.Nat.{_^_};
 ghost use lib.Dec.{ltb};
-ghost use Rattle.bits.specs.Tests.{every};
-ghost use Rattle.session.specs.declared.Phase.the-variants.{Rest, Instruction, Data};
-ghost use Rattle.session.specs.State.{soundTests, soundSession};
+ghost use Rattle.session.specs.State.{soundSession};
 use crate::Phase;
 use crate::Session;
 
@@ -19,48 +17,36 @@ fn value_fits(value: u16, bits: u8) -> bool
 }
 
 impl Session {
-    // Whether a session at rest is sound.
-    fn sound_at_rest(self) -> bool
-        ensures { λ r. ⌜ r ≡ every (soundTests Rest self) ⌝ }
-    {
-        self.csb
-            & (self.bits == 0)
-            & (self.value == 0)
-            & (self.address == 0)
-            & !self.read
-            & !self.used.lsb
-            & !self.used.ascending
-            & !self.used.sdo
-            & !self.used.single
-    }
-
-    // Whether a session in an instruction is sound.
-    fn sound_in_instruction(self) -> bool
-        ensures { λ r. ⌜ r ≡ every (soundTests Instruction self) ⌝ }
-    {
-        !self.csb
-            & (self.bits <= 15)
-            & value_fits(self.value, self.bits)
-            & (self.address == 0)
-            & !self.read
-    }
-
-    // Whether a session in data is sound.
-    fn sound_in_data(self) -> bool
-        ensures { λ r. ⌜ r ≡ every (soundTests Data self) ⌝ }
-    {
-        !self.csb & (self.bits <= 7) & value_fits(self.value, self.bits) & (self.address <= 0x7FFF)
-    }
-
     // Whether the session is sound.
     pub fn sound(self) -> bool
         ensures { λ r. ⌜ r ≡ soundSession self ⌝ }
     {
         let phase = self.phase;
         match phase {
-            Phase::Rest => self.sound_at_rest(),
-            Phase::Instruction => self.sound_in_instruction(),
-            Phase::Data => self.sound_in_data(),
+            Phase::Rest => {
+                self.csb
+                    & (self.bits == 0)
+                    & (self.value == 0)
+                    & (self.address == 0)
+                    & !self.read
+                    & !self.used.lsb
+                    & !self.used.ascending
+                    & !self.used.sdo
+                    & !self.used.single
+            }
+            Phase::Instruction => {
+                !self.csb
+                    & (self.bits <= 15)
+                    & value_fits(self.value, self.bits)
+                    & (self.address == 0)
+                    & !self.read
+            }
+            Phase::Data => {
+                !self.csb
+                    & (self.bits <= 7)
+                    & value_fits(self.value, self.bits)
+                    & (self.address <= 0x7FFF)
+            }
         }
     }
 }

@@ -1,10 +1,10 @@
 // The sessions that a sample leads to, phase by phase.
 ghost use mathlib.Core.Path.{_≡_};
 ghost use Rattle.session.specs.State.{resting, instructing, starting, inData};
-use crate::InUse;
 use crate::Phase;
 use crate::Session;
-use crate::Settings;
+use settings::InUse;
+use settings::Settings;
 
 // At rest: CSB is high.
 pub(crate) fn resting(sclk: bool, settings: Settings) -> Session

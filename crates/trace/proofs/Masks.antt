@@ -132,7 +132,7 @@ eight-same xs bytes mask levels i hm hl h e = record {
 }
 
 -- one sample more in front
-pub same-first : {xs : List ℕ} {mask levels i j : ℕ} → i < length xs → bitAnd (getD xs i 0) mask ≡ levels → Same xs mask levels (i + 1) j → Same xs mask levels i j
+same-first : {xs : List ℕ} {mask levels i j : ℕ} → i < length xs → bitAnd (getD xs i 0) mask ≡ levels → Same xs mask levels (i + 1) j → Same xs mask levels i j
 same-first {xs} {mask} {levels} {i} {j} h e s = record { ahead = omega arith; within = s .within; all = at }
   where
     at : (k : ℕ) → k < j - i → bitAnd (getD xs (i + k) 0) mask ≡ levels
@@ -141,8 +141,17 @@ same-first {xs} {mask} {levels} {i} {j} h e s = record { ahead = omega arith; wi
         let f : i + 1 + k ≡ i + suc k = omega arith in
         rw f at (s .all k (omega arith))
 
-pub same-none : {xs : List ℕ} {mask levels i : ℕ} → i ≤ length xs → Same xs mask levels i i
-same-none h = record { ahead = omega arith; within = h; all = λ k g. absurd (omega arith) }
+pub same-none : {xs : List ℕ} {mask levels i : ℕ} → i < length xs → Same xs mask levels i i
+same-none h = record { ahead = omega arith; within = omega arith; all = λ k g. absurd (omega arith) }
+
+pub same-one : {xs : List ℕ} {mask levels i : ℕ} → i < length xs → bitAnd (getD xs i 0) mask ≡ levels → Same xs mask levels i (i + 1)
+same-one h e = same-first h e (record { ahead = omega arith; within = omega arith; all = λ k g. absurd (omega arith) })
+
+pub same-nine : {xs : List ℕ} {mask levels i : ℕ} → i < length xs → bitAnd (getD xs i 0) mask ≡ levels → Same xs mask levels (i + 1) (i + 1 + 8)
+    → Same xs mask levels i (i + 9)
+same-nine {xs} {mask} {levels} {i} h e s =
+    let f : i + 1 + 8 ≡ i + 9 = omega arith in
+    rw f at (same-first h e s)
 
 pub gathered-more : (xs : List ℕ) (line : ℕ) (lsb : Bool) (i n : ℕ)
     → gathered xs line lsb i (suc n) ≡ shiftedIn lsb (gathered xs line lsb i n) n (bitAt (getD xs (i + 2 * n + 1) 0) line)

@@ -141,8 +141,8 @@ stepped {xs} {s} {i} {p} q r h a ev lv e = record {
 }
 
 -- the start: a piece as a session has it
-pub begun : {xs : List ℕ} {s : Session} (p : Piece) → Apt s p → p .at ≤ length xs → Reached xs (held s p) (p .at) p
-begun p a h = record { ahead = omega arith; within = h; apt = record { even = a .even; level = a .level; sound = a .sound }; path = still }
+pub begun : {xs : List ℕ} {s : Session} (p : Piece) → Apt s p → p .at < length xs → Reached xs (held s p) (p .at) p
+begun p a h = record { ahead = omega arith; within = omega (arith, h); apt = record { even = a .even; level = a .level; sound = a .sound }; path = still }
 
 level-lt : (b : Bool) → cond b 2 0 < 4
 level-lt true = omega arith

@@ -5,11 +5,12 @@ use mathlib.Core.List.{List}
 use Prim.Native.Nat.{ℕ, _+_, _<_, _≤_}
 use native.Mathlib.Omega.{arith}
 use lib.ListN.{length, getD}
+use Rattle.settings.specs.Settings.{nextAddress}
 use Rattle.session.specs.declared.Session.{Session}
 use Rattle.session.specs.declared.Event.{Event}
 use Rattle.session.specs.declared.Event.the-variants.{Nothing, Whole, Aborted}
 use Rattle.session.specs.State.{soundSession}
-use Rattle.session.specs.Step.{nextAddress, stepOf}
+use Rattle.session.specs.Step.{stepOf}
 use Rattle.session.specs.Event.{eventOf}
 use Rattle.session.proofs.Laws.{sound-step}
 use Rattle.trace.specs.declared.quiet.Piece.{Piece}

@@ -9,14 +9,14 @@ use lib.ListN.{getD}
 use borrow.Author.Tests.{ne-eqb, eqb-true, leb-true, not-true}
 use Rattle.bits.specs.Bits.{bitAt}
 use Rattle.bits.proofs.Cases.{every-true}
+use Rattle.settings.specs.declared.Settings.{Settings}
+use Rattle.settings.specs.Settings.{nextAddress, settingsAfter}
 use Rattle.session.specs.declared.Phase.{Phase}
 use Rattle.session.specs.declared.Phase.the-variants.{Rest, Instruction, Data}
-use Rattle.session.specs.declared.Settings.{Settings}
 use Rattle.session.specs.declared.Session.{Session}
 use Rattle.session.specs.declared.Event.the-variants.{Whole}
 use Rattle.session.specs.State.{soundSession}
-use Rattle.session.specs.Settings.{settingsAfter}
-use Rattle.session.specs.Step.{takesBit, valueWith, nextAddress, withDataBit, stepOf}
+use Rattle.session.specs.Step.{takesBit, valueWith, withDataBit, stepOf}
 use Rattle.session.specs.Event.{isData, bitEvent, eventOf}
 use Rattle.session.proofs.Form.{Form, rests, instructs, has-data, sound-form}
 use Rattle.trace.specs.Words.{Pair, gathered}

@@ -95,7 +95,7 @@ pub fn next_event(session: Session, samples: &[u8], from: usize) -> Next
         if byte_ahead(s, samples, at) {
             event = byte_event(s, samples, at);
             s.sclk = true;
-            s.address = session::next_address(s.used.ascending, s.address);
+            s.address = settings::next_address(s.used.ascending, s.address);
             at += 16;
             break;
         }

@@ -14,16 +14,13 @@ read-map-requires : tie.Need-read-map-requires
 read-map-requires c κs = search needs
 
 enum-known-length : tie.Need-enum-known-length
-enum-known-length c = search needs
+enum-known-length c = c .match .keys1
 
 enum-told : tie.Need-enum-told
-enum-told c = search needs
-
-input-failed-requires : tie.Need-input-failed-requires
-input-failed-requires c κs = search needs
+enum-told c = c .match .keys2
 
 returns : tie.Need-returns
-returns c = search needs
+returns c = tt
 
 array-share-prefix-map : tie.Need-array-share-prefix-map
 array-share-prefix-map c =
@@ -36,7 +33,7 @@ slice-aggregate-given c =
     sym (length-take-le _ _ (omega (arith, within-bytes (c .before .before .length .given .1) (m .ensures), m .kept .0)))
 
 bank-size-requires : tie.Need-bank-size-requires
-bank-size-requires c κs = search needs
+bank-size-requires c κs = tt
 
 array-borrow-prefix-active : tie.Need-array-borrow-prefix-active
 array-borrow-prefix-active c = search needs
@@ -51,10 +48,10 @@ slice-aggregate-read-all-2 : tie.Need-slice-aggregate-read-all-2
 slice-aggregate-read-all-2 c = sym (length-take-le _ _ (omega (arith, c .before .before .bank-size .ensures)))
 
 read-all-requires : tie.Need-read-all-requires
-read-all-requires c κs = search needs
+read-all-requires c κs = tt
 
 returns-2 : tie.Need-returns-2
-returns-2 c = search needs
+returns-2 c = tt
 
 pub main-spec : {M : Type 1} → statement M
 main-spec =
@@ -64,7 +61,6 @@ main-spec =
     read-map-requires
     enum-known-length
     enum-told
-    input-failed-requires
     returns
     array-share-prefix-map
     slice-aggregate-given

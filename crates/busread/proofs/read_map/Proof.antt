@@ -9,10 +9,10 @@ fill-requires : tie.Need-fill-requires
 fill-requires c κs = search needs
 
 enum-known-field : tie.Need-enum-known-field
-enum-known-field c = search needs
+enum-known-field c = c .match .keys1
 
 enum-told : tie.Need-enum-told
-enum-told c = search needs
+enum-told c = c .match .keys2
 
 same-length : tie.Need-same-length
 same-length c = search needs
@@ -33,7 +33,7 @@ slice-read-map-end-2 : tie.Need-slice-read-map-end-2
 slice-read-map-end-2 c = search needs
 
 map-end-requires : tie.Need-map-end-requires
-map-end-requires c κs = search needs
+map-end-requires c κs = tt
 
 fill-requires-2 : tie.Need-fill-requires-2
 fill-requires-2 c κs = omega (arith, map-end-bounds _ (c .before .map-end .ensures))

@@ -1,6 +1,6 @@
 -- `open` meets its contract: done, each default stands in both banks; refused, the banks are as they were.
 use borrow.Author.Needs.{needs}
-use mathlib.Core.Path.{sym, _∙_}
+use mathlib.Core.Path.{refl, sym, _∙_}
 use Rattle.reader.proofs.Refusals.{opens, fits-mapped, open-refused, open-done}
 use Rattle.reader.proofs.open.Statement.{statement}
 use Rattle.reader.proofs.open.Tie as tie
@@ -20,19 +20,19 @@ reset-requires c κs =
     fits-mapped _ _ (t .0) (t .1)
 
 same-length : tie.Need-same-length
-same-length c = search needs
+same-length c = c .before .before .before .before .reset .kept .1 .0
 
 same-length-2 : tie.Need-same-length-2
-same-length-2 c = search needs
+same-length-2 c = c .before .before .before .before .reset .kept .1 .1 .0
 
 returns : tie.Need-returns
 returns c = open-done _ _ _ (c .before .before .before .before .before .before .before .before .before .open-refusal .ensures) _ (c .before .before .before .before .before .before .before .before .opened .ensures) (c .before .before .before .before .before .before .before .if1 .taken) _ (c .before .before .before .before .reset .ensures)
 
 same-length-3 : tie.Need-same-length-3
-same-length-3 c = search needs
+same-length-3 c = refl
 
 same-length-4 : tie.Need-same-length-4
-same-length-4 c = search needs
+same-length-4 c = refl
 
 returns-2 : tie.Need-returns-2
 returns-2 c = open-refused _ _ _ (c .before .before .open-refusal .ensures) _ (c .before .opened .ensures) (c .if1 .left)

@@ -1,59 +1,35 @@
--- `report::put_count_line` meets its contract: its parts, put one after the other.
+-- `report::put_count_line` meets its contract: two words, each with its number, one after the other.
 use native.Mathlib.Omega.{arith}
-use Rattle.report.specs.Text.{countLine}
-use Rattle.report.proofs.Laws.{decimal-length, placed-next, placed-printed}
+use Rattle.report.proofs.Laws.{number-length, placed-counts, placed-printed}
 use borrow.Author.Needs.{needs}
 use Rattle.report.proofs.put_count_line.Statement.{statement}
 use Rattle.report.proofs.put_count_line.Tie as tie
 
-slice-aggregate-put : tie.Need-slice-aggregate-put
-slice-aggregate-put c = search needs
+slice-aggregate-put-number : tie.Need-slice-aggregate-put-number
+slice-aggregate-put-number c = search needs
 
-put-requires : tie.Need-put-requires
-put-requires c κs = search needs
+put-number-requires : tie.Need-put-number-requires
+put-number-requires c κs = search needs
 
-put-decimal-requires : tie.Need-put-decimal-requires
-put-decimal-requires c κs = search needs
+slice-aggregate-put-number-2 : tie.Need-slice-aggregate-put-number-2
+slice-aggregate-put-number-2 c = search needs
 
-slice-aggregate-put-2 : tie.Need-slice-aggregate-put-2
-slice-aggregate-put-2 c = search needs
-
-put-requires-2 : tie.Need-put-requires-2
-put-requires-2 c κs = omega (arith, decimal-length 20 (c .before .before .before .before .before .before .before .args .records))
-
-put-decimal-requires-2 : tie.Need-put-decimal-requires-2
-put-decimal-requires-2 c κs = omega (arith, decimal-length 20 (c .before .before .before .before .before .before .before .before .before .args .records))
-
-slice-aggregate-put-3 : tie.Need-slice-aggregate-put-3
-slice-aggregate-put-3 c = search needs
-
-put-requires-3 : tie.Need-put-requires-3
-put-requires-3 c κs =
-    let a = c .before .before .before .before .before .before .before .before .before .before .before .before .args in
-    omega (arith, decimal-length 20 (a .records), decimal-length 20 (a .samples))
+put-number-requires-2 : tie.Need-put-number-requires-2
+put-number-requires-2 c κs = omega (arith, number-length (c .before .before .before .before .before .args .records) 32)
 
 returns : tie.Need-returns
-unfolding countLine
 returns c =
-    let c₄ = c .before .before .before in
-    let c₃ = c₄ .before .before in
-    let c₂ = c₃ .before .before .before in
-    let c₁ = c₂ .before .before in
+    let c₁ = c .before .before .before in
     let a = c₁ .before .before .before .args in
-    let three = placed-next (placed-next (c₁ .put .ensures) (c₂ .put-decimal .ensures)) (c₃ .put2 .ensures) in
-    placed-printed (omega (arith, decimal-length 20 (a .records), decimal-length 20 (a .samples)))
-    (placed-next (placed-next three (c₄ .put-decimal2 .ensures)) (c .put3 .ensures))
+    let line = placed-counts (a .records) (a .samples) (c₁ .put-number .ensures) (c .put-number2 .ensures) in
+    placed-printed (omega (arith, number-length (a .records) 32, number-length (a .samples) 10)) line
 
 pub put-count-line-spec : {M : Type 1} → statement M
 put-count-line-spec =
     tie.close
     (tie.spec
-    slice-aggregate-put
-    put-requires
-    put-decimal-requires
-    slice-aggregate-put-2
-    put-requires-2
-    put-decimal-requires-2
-    slice-aggregate-put-3
-    put-requires-3
+    slice-aggregate-put-number
+    put-number-requires
+    slice-aggregate-put-number-2
+    put-number-requires-2
     returns)

@@ -1,8 +1,11 @@
 -- `report::put_lines` meets its contract: the lines that are left, put from the present place on, would make the buffer what it is
 -- to be.
+use mathlib.Core.Path.{ap, _∙_}
 use Prim.Native.Nat.{_-_}
 use native.Mathlib.Omega.{arith}
-use Rattle.report.proofs.Laws.{Listing, begun, turned, ended}
+use lib.ListN.{length-drop}
+use Rattle.report.specs.Text.{lineOf}
+use Rattle.report.proofs.Laws.{Listing, begun, turned, ended, from-on, line-length}
 use Rattle.report.proofs.put_lines.Statement.{statement}
 use Rattle.report.proofs.put_lines.Tie as tie
 
@@ -18,14 +21,29 @@ least-requires c κs = tt
 loop-holds : tie.Need-loop-holds Inv-loop μ-loop
 loop-holds c = begun _ _ _
 
-mul-put-line : tie.Need-mul-put-line Inv-loop μ-loop
-mul-put-line c = omega arith
+mul-line-of : tie.Need-mul-line-of Inv-loop μ-loop
+mul-line-of c = omega arith
 
-mul-put-line-2 : tie.Need-mul-put-line-2 Inv-loop μ-loop
-mul-put-line-2 c = omega arith
+sub-line-of : tie.Need-sub-line-of Inv-loop μ-loop
+sub-line-of c = omega arith
 
-put-line-requires : tie.Need-put-line-requires Inv-loop μ-loop
-put-line-requires c κs = omega arith
+part-line-of-start : tie.Need-part-line-of-start Inv-loop μ-loop
+part-line-of-start c = omega arith
+
+part-line-of-end : tie.Need-part-line-of-end Inv-loop μ-loop
+part-line-of-end c = omega arith
+
+line-of-requires : tie.Need-line-of-requires Inv-loop μ-loop
+line-of-requires c κs = rw from-on (simp length-drop (omega arith))
+
+slice-aggregate-put : tie.Need-slice-aggregate-put Inv-loop μ-loop
+slice-aggregate-put c = omega arith
+
+mul-put : tie.Need-mul-put Inv-loop μ-loop
+mul-put c = omega arith
+
+put-requires : tie.Need-put-requires Inv-loop μ-loop
+put-requires c κs = rw (c .before .before .line-of .ensures, line-length) (omega arith)
 
 add-n : tie.Need-add-n Inv-loop μ-loop
 add-n c = omega arith
@@ -35,8 +53,10 @@ loop-less c = omega arith
 
 loop-again : tie.Need-loop-again Inv-loop μ-loop
 loop-again c =
-    let turn = c .before .before .before .before in
-    rw (c .before .before .put-line .ensures) (turned (turn .before .loop .inv) (turn .loop-test .taken))
+    let l = c .before .before .before .before .before in
+    let turn = l .before .before in
+    let line = l .line-of .ensures ∙ ap lineOf (from-on (turn .before .before .before .before .before .args .records .now) _) in
+    rw (c .before .before .put .ensures .buffer, line) (turned (turn .before .loop .inv) (turn .loop-test .taken))
 
 same-length : tie.Need-same-length Inv-loop μ-loop
 same-length c = c .before .loop .inv .same
@@ -52,9 +72,14 @@ put-lines-spec =
     μ-loop
     least-requires
     loop-holds
-    mul-put-line
-    mul-put-line-2
-    put-line-requires
+    mul-line-of
+    sub-line-of
+    part-line-of-start
+    part-line-of-end
+    line-of-requires
+    slice-aggregate-put
+    mul-put
+    put-requires
     add-n
     loop-less
     loop-again

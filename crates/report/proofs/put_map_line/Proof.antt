@@ -1,41 +1,20 @@
--- `report::put_map_line` meets its contract: its parts, put one after the other.
+-- `report::put_map_line` meets its contract: one word and one number, from the start of the buffer on.
 use native.Mathlib.Omega.{arith}
 use Rattle.report.specs.Text.{mapLine}
-use Rattle.report.proofs.Laws.{decimal-length, placed-next, placed-printed}
+use Rattle.report.proofs.Laws.{number-length, placed-printed}
 use borrow.Author.Needs.{needs}
 use Rattle.report.proofs.put_map_line.Statement.{statement}
 use Rattle.report.proofs.put_map_line.Tie as tie
 
-slice-aggregate-put : tie.Need-slice-aggregate-put
-slice-aggregate-put c = search needs
+slice-aggregate-put-number : tie.Need-slice-aggregate-put-number
+slice-aggregate-put-number c = search needs
 
-put-requires : tie.Need-put-requires
-put-requires c κs = search needs
-
-put-decimal-requires : tie.Need-put-decimal-requires
-put-decimal-requires c κs = search needs
-
-slice-aggregate-put-2 : tie.Need-slice-aggregate-put-2
-slice-aggregate-put-2 c = search needs
-
-put-requires-2 : tie.Need-put-requires-2
-put-requires-2 c κs = omega (arith, decimal-length 20 (c .before .before .before .before .before .before .before .args .n))
+put-number-requires : tie.Need-put-number-requires
+put-number-requires c κs = search needs
 
 returns : tie.Need-returns
 unfolding mapLine
-returns c =
-    let c₂ = c .before .before .before in
-    let c₁ = c₂ .before .before in
-    placed-printed (omega (arith, decimal-length 20 (c₁ .before .before .before .args .n)))
-    (placed-next (placed-next (c₁ .put .ensures) (c₂ .put-decimal .ensures)) (c .put2 .ensures))
+returns c = placed-printed (omega (arith, number-length (c .before .before .before .args .n) 10)) (c .put-number .ensures)
 
 pub put-map-line-spec : {M : Type 1} → statement M
-put-map-line-spec =
-    tie.close
-    (tie.spec
-    slice-aggregate-put
-    put-requires
-    put-decimal-requires
-    slice-aggregate-put-2
-    put-requires-2
-    returns)
+put-map-line-spec = tie.close (tie.spec slice-aggregate-put-number put-number-requires returns)

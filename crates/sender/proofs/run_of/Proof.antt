@@ -16,7 +16,7 @@ bit-at-requires-3 : tie.Need-bit-at-requires-3
 bit-at-requires-3 c κs = search needs
 
 returns : tie.Need-returns
-returns c = cc
+returns c = rw (c .bit-at3 .ensures, c .before .bit-at2 .ensures, c .before .before .bit-at .ensures)
 
 pub run-of-spec : {M : Type 1} → statement M
 run-of-spec =

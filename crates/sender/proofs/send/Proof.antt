@@ -1,7 +1,7 @@
 -- `send` meets its contract: the number decides, and the samples are put only where it is 0.
 use mathlib.Core.Path.{sym, _∙_}
 use borrow.Author.Needs.{needs}
-use Rattle.sender.specs.Order.{Order, order}
+use Rattle.order.specs.Order.{Order, order}
 use Rattle.sender.proofs.Answer.{done, refused}
 use Rattle.sender.proofs.send.Statement.{statement}
 use Rattle.sender.proofs.send.Tie as tie

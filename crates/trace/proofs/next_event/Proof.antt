@@ -20,7 +20,7 @@ loop-holds : tie.Need-loop-holds Inv-loop μ-loop
 loop-holds c = (refl, scan-begun (c .before .pre .0) (omega arith))
 
 byte-ahead-requires : tie.Need-byte-ahead-requires Inv-loop μ-loop
-byte-ahead-requires c κs = omega arith
+byte-ahead-requires c κs = c .before .loop .inv .1 .within
 
 byte-event-requires : tie.Need-byte-event-requires Inv-loop μ-loop
 byte-event-requires c κs = c .before .byte-ahead .ensures (c .if1 .taken)
@@ -35,7 +35,7 @@ quiet-requires : tie.Need-quiet-requires Inv-loop μ-loop
 quiet-requires c κs = (c .before .before .before .loop .inv .1 .sound, c .before .before .before .loop .inv .1 .within)
 
 shared-slice-read-x : tie.Need-shared-slice-read-x Inv-loop μ-loop
-shared-slice-read-x c = omega arith
+shared-slice-read-x c = c .before .if2 .left
 
 event-requires : tie.Need-event-requires Inv-loop μ-loop
 event-requires c κs = fit-sound _ (c .before .before .before .quiet .ensures .apt .sound)

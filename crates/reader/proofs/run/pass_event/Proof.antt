@@ -2,7 +2,7 @@
 use borrow.Author.Needs.{needs}
 use mathlib.Core.Path.{sym, _∙_}
 use mathlib.Core.Bool.{false≢true}
-use Rattle.reader.proofs.Laws.{place-after}
+use Rattle.records.proofs.Laws.{place-after}
 use Rattle.reader.proofs.run.pass_event.Statement.{statement}
 use Rattle.reader.proofs.run.pass_event.Tie as tie
 
@@ -10,13 +10,13 @@ take-event-requires : tie.Need-take-event-requires
 take-event-requires c κs = c .before .before .before .before .before .before .before .before .pre .taking (c .before .before .before .if1 .taken)
 
 same-length : tie.Need-same-length
-same-length c = search needs
+same-length c = c .before .before .before .before .before .before .take-event .kept .1 .0
 
 same-length-2 : tie.Need-same-length-2
-same-length-2 c = search needs
+same-length-2 c = c .before .before .before .before .before .before .take-event .kept .1 .1 .0
 
 same-length-3 : tie.Need-same-length-3
-same-length-3 c = search needs
+same-length-3 c = c .before .before .before .before .before .before .take-event .kept .1 .1 .1 .1 .1 .0
 
 returns : tie.Need-returns
 returns c =

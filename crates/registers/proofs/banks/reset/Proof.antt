@@ -11,14 +11,14 @@ put-defaults-requires-2 : tie.Need-put-defaults-requires-2
 put-defaults-requires-2 c κs = search needs
 
 same-length : tie.Need-same-length
-same-length c = search needs
+same-length c = c .before .before .before .before .before .before .put-defaults .kept .1 .0
 
 same-length-2 : tie.Need-same-length-2
-same-length-2 c = search needs
+same-length-2 c = c .before .before .put-defaults2 .kept .1 .0
 
 returns : tie.Need-returns
 unfolding defaultBanks
-returns c = cc
+returns c = rw (c .before .before .before .before .before .before .put-defaults .ensures, c .before .before .put-defaults2 .ensures)
 
 pub reset-spec : {M : Type 1} → statement M
 reset-spec =

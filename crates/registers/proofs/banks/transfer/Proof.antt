@@ -3,9 +3,10 @@ use borrow.Author.Needs.{needs}
 use borrow.Author.Tests.{eq-eqb, ne-eqb}
 use Prim.Native.Nat.{ℕ, _-_}
 use lib.ListN.{length}
-use mathlib.Core.Path.{_≡_, ap}
+use mathlib.Core.Path.{_≡_, refl, sym, _∙_, ap}
 use mathlib.Core.List.{List}
 use mathlib.Core.Logic.{⊎-elim}
+use Rattle.bits.proofs.Cases.{yes, no}
 use Rattle.regmap.specs.Format.{registerAt}
 use Rattle.registers.specs.Banks.{banks, transferred}
 use Rattle.registers.proofs.Filling.{Filling, begun, stored, kept, ended}
@@ -47,8 +48,8 @@ loop-again c =
     let turn = c .before .before .before in
     let inv = turn .before .loop .inv in
     let e = kind-is (c .before .before) in
-    ⊎-elim (λ w. rw (w .2) (stored (transfer-rule _ _) inv _ (turn .loop-test .taken) (rw (e, eq-eqb _ _ (w .0 .taken)))))
-    (λ w. rw (w .1) (kept (transfer-rule _ _) inv (turn .loop-test .taken) (rw (e, ne-eqb _ _ (w .0 .left)))))
+    ⊎-elim (λ w. rw (w .2) (stored (transfer-rule _ _) inv _ (turn .loop-test .taken) (yes _ (eq-eqb _ _ (e ∙ w .0 .taken)) refl)))
+    (λ w. rw (w .1) (kept (transfer-rule _ _) inv (turn .loop-test .taken) (no _ (ne-eqb _ _ (λ q. w .0 .left (sym e ∙ q))) refl)))
     (c .if1 .came)
 
 same-length : tie.Need-same-length Inv-loop μ-loop

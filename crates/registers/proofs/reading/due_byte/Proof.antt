@@ -3,8 +3,17 @@
 use borrow.Author.Needs.{needs}
 use borrow.Author.Tests.{eq-eqb, ne-eqb}
 use native.Mathlib.Omega.{arith}
-use mathlib.Core.Path.{_≡_}
-use Rattle.regmap.specs.Format.{registerAt}
+use mathlib.Core.Path.{_≡_, refl}
+use mathlib.Core.Bool.{true, false, _&&_}
+use mathlib.Core.Logic.{_≢_}
+use mathlib.Core.List.{List}
+use Prim.Native.Nat.{ℕ}
+use lib.ListN.{getD}
+use lib.Dec.{eqb}
+use Rattle.bits.proofs.Cases.{yes, no}
+use Rattle.regmap.specs.Format.{registerAt, blank, buffered, control}
+use Rattle.settings.specs.declared.Settings.{Settings}
+use Rattle.registers.specs.Banks.{Banks}
 use Rattle.registers.specs.Read.{dueByte}
 use Rattle.registers.proofs.Laws.{in-banks}
 use Rattle.registers.proofs.reading.due_byte.Statement.{statement}
@@ -13,6 +22,15 @@ use Rattle.registers.proofs.reading.due_byte.Tie as tie
 kind-is : (c : tie.After-entry-at)
     → let a = c .before .before .before .before .args in registerAt (a .map .now) (a .address) .kind ≡ c .entry-at .result .kind
 kind-is c = rw (c .entry-at .ensures, c .before .before .before .before .pre .active-size)
+
+module _ (m : List ℕ) (b : Banks) (t : Settings) (a k : ℕ) (is : registerAt m a .kind ≡ k) (no-blank : k ≢ blank) (no-control : k ≢ control) where
+  waits : (eqb k buffered && t .readback) ≡ true → getD (b .buffer) a 0 ≡ dueByte m b t a
+  unfolding dueByte
+  waits h = rw (is, ne-eqb k blank no-blank, ne-eqb k control no-control) (yes _ h refl)
+
+  in-force : (eqb k buffered && t .readback) ≡ false → getD (b .active) a 0 ≡ dueByte m b t a
+  unfolding dueByte
+  in-force h = rw (is, ne-eqb k blank no-blank, ne-eqb k control no-control) (no _ h refl)
 
 entry-at-requires : tie.Need-entry-at-requires
 entry-at-requires c κs = search needs
@@ -35,10 +53,9 @@ shared-slice-read-result c =
     omega (arith, in-banks (at .before .before .before .before .before .pre) (kind-is (at .before)) (at .if1 .left))
 
 returns-3 : tie.Need-returns-3
-unfolding dueByte
 returns-3 c =
     let at = c .before .before .before in
-    rw (kind-is (at .before .before), ne-eqb _ _ (at .before .if1 .left), ne-eqb _ _ (at .if2 .left), c .before .if3 .taken)
+    waits _ _ _ _ _ (kind-is (at .before .before)) (at .before .if1 .left) (at .if2 .left) (c .before .if3 .taken)
 
 shared-slice-read-result-2 : tie.Need-shared-slice-read-result-2
 shared-slice-read-result-2 c =
@@ -46,10 +63,9 @@ shared-slice-read-result-2 c =
     omega (arith, in-banks (at .before .before .before .before .before .pre) (kind-is (at .before)) (at .if1 .left))
 
 returns-4 : tie.Need-returns-4
-unfolding dueByte
 returns-4 c =
     let at = c .before .before .before in
-    rw (kind-is (at .before .before), ne-eqb _ _ (at .before .if1 .left), ne-eqb _ _ (at .if2 .left), c .before .if3 .left)
+    in-force _ _ _ _ _ (kind-is (at .before .before)) (at .before .if1 .left) (at .if2 .left) (c .before .if3 .left)
 
 pub due-byte-spec : {M : Type 1} → statement M
 due-byte-spec =

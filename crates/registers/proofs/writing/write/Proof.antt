@@ -27,7 +27,7 @@ merge-at-requires c κs =
     omega (arith, in-banks (at .before .before .before .before .pre) (kind-is at ∙ c .before .if1 .taken) (λ z. omega arith))
 
 same-length : tie.Need-same-length
-same-length c = search needs
+same-length c = c .before .before .merge-at .kept .0
 
 returns : tie.Need-returns
 returns c =
@@ -41,7 +41,7 @@ merge-at-requires-2 c κs =
     omega (arith, in-banks (at .before .before .before .before .pre) (kind-is at ∙ c .before .if2 .taken) (λ z. omega arith))
 
 same-length-2 : tie.Need-same-length-2
-same-length-2 c = search needs
+same-length-2 c = c .before .before .merge-at2 .kept .0
 
 returns-2 : tie.Need-returns-2
 returns-2 c =
@@ -59,17 +59,17 @@ reading-requires : tie.Need-reading-requires
 reading-requires c κs = search needs
 
 same-length-3 : tie.Need-same-length-3
-same-length-3 c = search needs
+same-length-3 c = c .before .before .before .before .before .before .write-control .kept .1 .0
 
 same-length-4 : tie.Need-same-length-4
-same-length-4 c = search needs
+same-length-4 c = c .before .before .before .before .before .before .write-control .kept .1 .1 .0
 
 returns-3 : tie.Need-returns-3
 returns-3 c =
     let done = c .before .before .before .before .before .before .write-control .ensures in
     let in-control = c .before .before .before .before .before .before .before .before .before in
-    rw (c .reading .ensures, c .before .after .ensures, done .0, done .1)
-    (wrote-control _ _ _ _ _ (kind-is (in-control .before .before .before .before .before .before) ∙ in-control .if3 .taken))
+    wrote-control _ _ _ _ _ (kind-is (in-control .before .before .before .before .before .before) ∙ in-control .if3 .taken)
+    (c .before .after .ensures) (c .reading .ensures) (done .0) (done .1)
 
 returns-4 : tie.Need-returns-4
 returns-4 c =

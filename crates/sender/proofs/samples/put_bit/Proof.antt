@@ -6,7 +6,7 @@ use native.Mathlib.Numerals.{add-one}
 use lib.ListN.{length-set}
 use lib.Dec.{eqb}
 use Rattle.bits.specs.Bits.{bitAt, bitOf}
-use Rattle.sender.specs.Samples.{clocked}
+use Rattle.order.specs.Samples.{clocked}
 use borrow.Author.Needs.{needs}
 use Rattle.sender.proofs.samples.put_bit.Statement.{statement}
 use Rattle.sender.proofs.samples.put_bit.Tie as tie

@@ -4,8 +4,8 @@ use native.Mathlib.Omega.{arith}
 use lib.ListN.{drop}
 use borrow.Author.Needs.{needs}
 use Rattle.bits.proofs.Cases.{each}
-use Rattle.sender.specs.Samples.{bitsOf, clocked}
-use Rattle.sender.proofs.Laws.{length-bits, length-clocked}
+use Rattle.order.specs.Samples.{bitsOf, clocked}
+use Rattle.order.proofs.Laws.{length-bits, length-clocked}
 use Rattle.sender.proofs.Putting.{Putting, begun, next-fits, further, ended}
 use Rattle.sender.proofs.Parts.{next-bit, no-more-bits}
 use Rattle.sender.proofs.samples.put_bits.Statement.{statement}

@@ -4,10 +4,10 @@ use mathlib.Core.List.{_++_}
 use native.Mathlib.Omega.{arith}
 use lib.ListN.{length}
 use borrow.Author.Needs.{needs}
-use Rattle.sender.specs.Order.{Order, order}
-use Rattle.sender.specs.Samples.{samplesOf}
+use Rattle.order.specs.Order.{Order, order}
+use Rattle.order.specs.Samples.{samplesOf}
 use Rattle.sender.specs.Run.{closingSamples}
-use Rattle.sender.proofs.Laws.{Admitted, admitted}
+use Rattle.order.proofs.Laws.{Admitted, admitted}
 use Rattle.sender.proofs.Putting.{Putting, begun, next-fits, further, ended}
 use Rattle.sender.proofs.Parts.{allBytes, opening-first, bytes-next, closing-last}
 use Rattle.sender.proofs.samples.put_samples.Statement.{statement}

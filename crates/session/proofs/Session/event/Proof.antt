@@ -1,53 +1,106 @@
--- `Session::event` meets its contract: the tests of the definition, in its order.
-use mathlib.Core.Path.{_≡_, refl, sym, _∙_}
-use mathlib.Core.Bool.{true, false}
-use Rattle.bits.proofs.Cases.{yes, no}
-use Rattle.session.specs.Step.{csbRises}
-use Rattle.session.specs.Event.{eventOf}
+-- `Session::event` meets its contract: the tests of the definition, in its order, where the code joins two of them that both have to hold.
+use Prim.Native.Nat.{ℕ}
+use mathlib.Core.Path.{_≡_, refl, ap, sym, _∙_}
+use mathlib.Core.Bool.{Bool, true, false, cond, not, _&&_, _||_}
+use native.Mathlib.Omega.{arith}
+use lib.Dec.{eqb, ltb}
+use borrow.Author.Tests.{not-false}
+use Rattle.bits.proofs.Cases.{yes, no, or-left}
+use Rattle.session.specs.declared.Session.{Session}
+use Rattle.session.specs.declared.Event.{Event}
+use Rattle.session.specs.declared.Event.the-variants.{Nothing, Whole, Aborted}
+use Rattle.session.specs.Step.{csbOf, csbRises, takesBit, valueWith, dataLine}
+use Rattle.session.specs.Event.{isData, bitEvent, abortEvent, eventOf}
+use Rattle.session.proofs.Laws.{byte-lt, room-for-bit}
 use borrow.Author.Needs.{needs}
 use Rattle.session.proofs.Session.event.Statement.{statement}
 use Rattle.session.proofs.Session.event.Tie as tie
 
+-- nothing where the first test fails or the second holds
+joined : (a b : Bool) (e : Event) → cond (not a || b) Nothing e ≡ cond a (cond b Nothing e) Nothing
+joined true b e = refl
+joined false b e = refl
+
+-- the event of s, by whether it takes a bit, whether that is data, and the level of CSB
+abbrev eventBy : Session → ℕ → Bool → Bool → Bool → Event
+eventBy s x takes in-data csb =
+    cond takes
+    (cond (not in-data || ltb (s .bits) 7) Nothing (Whole (s .read) (s .address) (valueWith s (dataLine s x))))
+    (cond (not (not (s .csb) && csb) || eqb (s .bits) 0) Nothing (Aborted (s .address) (s .bits) in-data))
+
+event-by : (s : Session) (x : ℕ) {takes in-data csb : Bool} → takes ≡ takesBit s x → in-data ≡ isData (s .phase) → csb ≡ csbOf x
+    → eventBy s x takes in-data csb ≡ eventOf s x
+unfolding eventOf bitEvent abortEvent
+event-by s x d e f =
+    (λ i. eventBy s x (d i) (e i) (f i))
+    ∙ (λ i. cond (takesBit s x)
+    (joined (isData (s .phase)) (ltb (s .bits) 7) (Whole (s .read) (s .address) (valueWith s (dataLine s x))) i)
+    (joined (csbRises s x) (eqb (s .bits) 0) (Aborted (s .address) (s .bits) (isData (s .phase))) i))
+
+is-data-requires : tie.Need-is-data-requires
+is-data-requires c κs = search needs
+
 takes-bit-requires : tie.Need-takes-bit-requires
 takes-bit-requires c κs = search needs
 
-bit-event-requires : tie.Need-bit-event-requires
-bit-event-requires c κs = search needs
-
 returns : tie.Need-returns
-unfolding eventOf
-returns c = yes _ (sym (c .before .before .takes-bit .ensures) ∙ c .before .if1 .taken) (c .bit-event .ensures)
+returns c =
+    let b = c .before .before .before in
+    let a = b .before .before .args in
+    yes _ (c .before .before .if1 .taken) (yes _ (c .if2 .taken) refl)
+    ∙ event-by (a .self) (a .sample) (b .takes-bit .ensures) (b .before .is-data .ensures) refl
+
+data-line-requires : tie.Need-data-line-requires
+data-line-requires c κs = search needs
+
+shift-in-requires : tie.Need-shift-in-requires
+shift-in-requires c κs =
+    let b = c .before .before .before .before .before .before in
+    room-for-bit (b .args .self) (b .pre)
+
+cast-t12 : tie.Need-cast-t12
+cast-t12 c =
+    let b = c .before .before .before .before .before .before in
+    let d = sym (b .is-data .ensures) ∙ not-false _ (or-left _ _ (c .before .before .if2 .left)) in
+    omega (arith, c .shift-in .ensures, byte-lt (b .before .args .self) (c .before .data-line .result) (b .before .pre) d)
+
+returns-2 : tie.Need-returns-2
+returns-2 c =
+    let b = c .before .before .before .before .before in
+    let a = b .before .before .args in
+    let v = c .shift-in .ensures ∙ ap (valueWith (a .self)) (c .before .data-line .ensures) in
+    yes _ (c .before .before .before .before .if1 .taken)
+    (no _ (c .before .before .if2 .left) (ap (Whole (a .self .read) (a .self .address)) v))
+    ∙ event-by (a .self) (a .sample) (b .takes-bit .ensures) (b .before .is-data .ensures) refl
 
 bit-at-requires : tie.Need-bit-at-requires
 bit-at-requires c κs = search needs
 
-abort-event-requires : tie.Need-abort-event-requires
-abort-event-requires c κs = search needs
-
-returns-2 : tie.Need-returns-2
-unfolding eventOf
-returns-2 c =
-    let b = c .before .before .before .before .before in
-    let a = b .before .args in
-    let r : csbRises (a .self) (a .sample) ≡ true = cc in
-    no _ (sym (b .takes-bit .ensures) ∙ c .before .before .before .before .if1 .left) (yes _ r (c .abort-event .ensures))
-
 returns-3 : tie.Need-returns-3
-unfolding eventOf
 returns-3 c =
-    let b = c .before .before .before .before in
-    let a = b .before .args in
-    let r : csbRises (a .self) (a .sample) ≡ false = cc in
-    no _ (sym (b .takes-bit .ensures) ∙ c .before .before .before .if1 .left) (no _ r refl)
+    let b = c .before .before .before .before .before in
+    let a = b .before .before .args in
+    no _ (c .before .before .before .before .if1 .left) (yes _ (c .if3 .taken) refl)
+    ∙ event-by (a .self) (a .sample) (b .takes-bit .ensures) (b .before .is-data .ensures) (c .before .before .bit-at .ensures)
+
+returns-4 : tie.Need-returns-4
+returns-4 c =
+    let b = c .before .before .before .before .before in
+    let a = b .before .before .args in
+    no _ (c .before .before .before .before .if1 .left) (no _ (c .if3 .left) refl)
+    ∙ event-by (a .self) (a .sample) (b .takes-bit .ensures) (b .before .is-data .ensures) (c .before .before .bit-at .ensures)
 
 pub event-spec : {M : Type 1} → statement M
 event-spec =
     tie.close
     (tie.spec
+    is-data-requires
     takes-bit-requires
-    bit-event-requires
     returns
-    bit-at-requires
-    abort-event-requires
+    data-line-requires
+    shift-in-requires
+    cast-t12
     returns-2
-    returns-3)
+    bit-at-requires
+    returns-3
+    returns-4)

@@ -1,7 +1,10 @@
--- `Session::sound` meets its contract: by the phase.
+-- `Session::sound` meets its contract: by the phase, the tests of its list, joined.
+use mathlib.Core.Bool.{true}
 use mathlib.Core.Path.{ap, sym, _∙_}
 use Rattle.bits.specs.Tests.{every}
+use Rattle.bits.proofs.Cases.{joined-every}
 use Rattle.session.specs.declared.Phase.{Phase}
+use Rattle.session.specs.declared.Phase.the-variants.{Rest, Instruction, Data}
 use Rattle.session.specs.State.{soundTests, soundSession}
 use borrow.Author.Needs.{needs}
 use Rattle.session.proofs.Session.sound.Statement.{statement}
@@ -10,49 +13,50 @@ use Rattle.session.proofs.Session.sound.Tie as tie
 enum-told : tie.Need-enum-told
 enum-told c = search needs
 
-sound-at-rest-requires : tie.Need-sound-at-rest-requires
-sound-at-rest-requires c κs = search needs
-
 enum-told-2 : tie.Need-enum-told-2
 enum-told-2 c = search needs
 
-sound-in-instruction-requires : tie.Need-sound-in-instruction-requires
-sound-in-instruction-requires c κs = search needs
+value-fits-requires : tie.Need-value-fits-requires
+value-fits-requires c κs = search needs
 
 enum-told-3 : tie.Need-enum-told-3
 enum-told-3 c = search needs
 
-sound-in-data-requires : tie.Need-sound-in-data-requires
-sound-in-data-requires c κs = search needs
+value-fits-requires-2 : tie.Need-value-fits-requires-2
+value-fits-requires-2 c κs = search needs
 
 returns : tie.Need-returns
 unfolding soundSession
 returns c =
-    let s = c .before .before .before .args .self in
-    c .sound-at-rest .ensures ∙ ap (λ (p : Phase). every (soundTests p s)) (sym (c .before .enum-told .given .1))
+    let b = c .before .before .before .before .before .before .before .before .before in
+    let s = b .before .before .args .self in
+    joined-every true (soundTests Rest s) ∙ ap (λ (p : Phase). every (soundTests p s)) (sym (b .enum-told .given .1))
 
 returns-2 : tie.Need-returns-2
 unfolding soundSession
 returns-2 c =
-    let s = c .before .before .before .args .self in
-    c .sound-in-instruction .ensures ∙ ap (λ (p : Phase). every (soundTests p s)) (sym (c .before .enum-told2 .given .1))
+    let b = c .before .before .before .before .before in
+    let s = b .before .before .args .self in
+    rw (c .before .before .value-fits .ensures)
+    (joined-every true (soundTests Instruction s) ∙ ap (λ (p : Phase). every (soundTests p s)) (sym (b .enum-told2 .given .1)))
 
 returns-3 : tie.Need-returns-3
 unfolding soundSession
 returns-3 c =
-    let s = c .before .before .before .args .self in
-    c .sound-in-data .ensures ∙ ap (λ (p : Phase). every (soundTests p s)) (sym (c .before .enum-told3 .given .1))
+    let b = c .before .before .before .before in
+    let s = b .before .before .args .self in
+    rw (c .before .value-fits2 .ensures)
+    (joined-every true (soundTests Data s) ∙ ap (λ (p : Phase). every (soundTests p s)) (sym (b .enum-told3 .given .1)))
 
 pub sound-spec : {M : Type 1} → statement M
 sound-spec =
     tie.close
     (tie.spec
     enum-told
-    sound-at-rest-requires
     enum-told-2
-    sound-in-instruction-requires
+    value-fits-requires
     enum-told-3
-    sound-in-data-requires
+    value-fits-requires-2
     returns
     returns-2
     returns-3)

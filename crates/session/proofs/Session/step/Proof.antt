@@ -1,93 +1,157 @@
 -- `Session::step` meets its contract: the definition's tests in its order, on a session that has the sample's levels already.
 use Prim.Native.Nat.{ℕ}
-use mathlib.Core.Bool.{cond, not, _&&_}
-use mathlib.Core.Path.{_≡_, refl, ap, sym, _∙_, subst}
+use mathlib.Core.Bool.{Bool, cond, not, _&&_}
+use mathlib.Core.Path.{_≡_, refl, ap, sym, _∙_}
 use Rattle.bits.proofs.Cases.{yes, no}
 use Rattle.session.specs.declared.Phase.{Phase}
-use Rattle.session.specs.declared.Phase.the-variants.{Rest, Instruction, Data}
 use Rattle.session.specs.declared.Session.{Session}
-use Rattle.session.specs.State.{resting, starting, withLevels, Fit}
-use Rattle.session.specs.Step.{takesBit, withInstructionBit, withDataBit, withBit, stepOf}
-use Rattle.session.proofs.Laws.{fit-levels}
+use Rattle.session.specs.State.{resting, starting, withLevels}
+use Rattle.session.specs.Step.{csbOf, sclkOf, takesBit, withInstructionBit, withDataBit, withBit, stepOf}
 use borrow.Author.Needs.{needs}
 use Rattle.session.proofs.Session.step.Statement.{statement}
 use Rattle.session.proofs.Session.step.Tie as tie
 
--- a bit counts the same where the last levels are those of its sample already
-bit-levels : (p : Phase) (s : Session) (x : ℕ) → withBit p (withLevels s x) x ≡ withBit p s x
-unfolding withInstructionBit withDataBit
-bit-levels Rest s x = refl
-bit-levels Instruction s x = refl
-bit-levels Data s x = refl
+-- s with the levels as the last ones
+abbrev leveled : Session → Bool → Bool → Session
+leveled s csb sclk = record {
+  csb = csb;
+  sclk = sclk;
+  phase = s .phase;
+  bits = s .bits;
+  value = s .value;
+  address = s .address;
+  read = s .read;
+  settings = s .settings;
+  used = s .used;
+}
 
--- the step of s, from l: s with the levels of the sample
-abbrev stepFrom : Session → Session → ℕ → Session
-stepFrom s l x =
-    cond (s .csb && not (l .csb)) (starting (l .sclk) (l .settings))
-    (cond (takesBit s x) (withBit (l .phase) l x)
-    (cond (not (s .csb) && l .csb) (resting (l .sclk) (l .settings))
-    l))
+-- the step of s, by whether it takes a bit and by the levels of its sample
+abbrev stepBy : Session → ℕ → Bool → Bool → Bool → Session
+stepBy s x takes csb sclk =
+    cond (s .csb && not csb) (starting sclk (s .settings))
+    (cond takes (withBit (s .phase) s x)
+    (cond (not (s .csb) && csb) (resting sclk (s .settings))
+    (leveled s csb sclk)))
 
-step-levels : (s l : Session) (x : ℕ) → l ≡ withLevels s x → stepFrom s l x ≡ stepOf s x
+step-by : (s : Session) (x : ℕ) {takes csb sclk : Bool} → takes ≡ takesBit s x → csb ≡ csbOf x → sclk ≡ sclkOf x
+    → stepBy s x takes csb sclk ≡ stepOf s x
 unfolding stepOf
-step-levels s l x e = ap (λ (m : Session). stepFrom s m x) e ∙ rw bit-levels
+step-by s x d e f = λ i. stepBy s x (d i) (e i) (f i)
 
 takes-bit-requires : tie.Need-takes-bit-requires
 takes-bit-requires c κs = search needs
 
-with-levels-requires : tie.Need-with-levels-requires
-with-levels-requires c κs = search needs
+bit-at-requires : tie.Need-bit-at-requires
+bit-at-requires c κs = search needs
+
+bit-at-requires-2 : tie.Need-bit-at-requires-2
+bit-at-requires-2 c κs = search needs
 
 starting-requires : tie.Need-starting-requires
 starting-requires c κs = search needs
 
 returns : tie.Need-returns
 returns c =
+    let b = c .before .before .before .before in
     yes _ (c .before .if1 .taken) (c .starting .ensures)
-    ∙ step-levels _ _ _ (c .before .before .before .before .with-levels .ensures)
+    ∙ step-by _ _ (b .before .before .takes-bit .ensures) (b .before .bit-at .ensures) (b .bit-at2 .ensures)
 
-with-bit-requires : tie.Need-with-bit-requires
-with-bit-requires c κs =
-    let l = c .before .before .before .before in
-    let b = l .before .before in
-    subst Fit (sym (l .with-levels .ensures)) (fit-levels (b .args .self) (b .args .sample) (b .pre))
+enum-told : tie.Need-enum-told
+enum-told c = search needs
 
 returns-2 : tie.Need-returns-2
 returns-2 c =
-    let l = c .before .before .before .before .before in
-    no _ (c .before .before .if1 .left)
-    (yes _ (sym (l .before .takes-bit .ensures) ∙ c .before .if2 .taken) (c .with-bit .ensures))
-    ∙ step-levels _ _ _ (l .with-levels .ensures)
+    let b = c .before .before .before .before .before .before in
+    let a = b .before .before .before .args in
+    let e = b .before .bit-at .ensures in
+    let f = b .bit-at2 .ensures in
+    let l : leveled (a .self) (b .before .bit-at .result) (b .bit-at2 .result) ≡ withLevels (a .self) (a .sample) =
+    λ i. leveled (a .self) (e i) (f i) in
+    no _ (c .before .before .before .if1 .left)
+    (yes _ (c .before .before .if2 .taken)
+    (l ∙ ap (λ (p : Phase). withBit p (a .self) (a .sample)) (sym (c .enum-told .given .1))))
+    ∙ step-by _ _ (b .before .before .takes-bit .ensures) e f
+
+enum-told-2 : tie.Need-enum-told-2
+enum-told-2 c = search needs
+
+bit-at-requires-3 : tie.Need-bit-at-requires-3
+bit-at-requires-3 c κs = search needs
+
+with-instruction-bit-requires : tie.Need-with-instruction-bit-requires
+with-instruction-bit-requires c κs = search needs
+
+returns-3 : tie.Need-returns-3
+unfolding withInstructionBit
+returns-3 c =
+    let b = c .before .before .before .before .before .before .before .before in
+    let a = b .before .before .before .args in
+    no _ (c .before .before .before .before .before .if1 .left)
+    (yes _ (c .before .before .before .before .if2 .taken)
+    (c .with-instruction-bit .ensures
+    ∙ ap (withInstructionBit (a .self)) (c .before .bit-at3 .ensures)
+    ∙ ap (λ (p : Phase). withBit p (a .self) (a .sample)) (sym (c .before .before .enum-told2 .given .1))))
+    ∙ step-by _ _ (b .before .before .takes-bit .ensures) (b .before .bit-at .ensures) (b .bit-at2 .ensures)
+
+enum-told-3 : tie.Need-enum-told-3
+enum-told-3 c = search needs
+
+data-line-requires : tie.Need-data-line-requires
+data-line-requires c κs = search needs
+
+with-data-bit-requires : tie.Need-with-data-bit-requires
+with-data-bit-requires c κs = search needs
+
+returns-4 : tie.Need-returns-4
+unfolding withDataBit
+returns-4 c =
+    let b = c .before .before .before .before .before .before .before .before in
+    let a = b .before .before .before .args in
+    no _ (c .before .before .before .before .before .if1 .left)
+    (yes _ (c .before .before .before .before .if2 .taken)
+    (c .with-data-bit .ensures
+    ∙ ap (withDataBit (a .self)) (c .before .data-line .ensures)
+    ∙ ap (λ (p : Phase). withBit p (a .self) (a .sample)) (sym (c .before .before .enum-told3 .given .1))))
+    ∙ step-by _ _ (b .before .before .takes-bit .ensures) (b .before .bit-at .ensures) (b .bit-at2 .ensures)
 
 resting-requires : tie.Need-resting-requires
 resting-requires c κs = search needs
 
-returns-3 : tie.Need-returns-3
-returns-3 c =
-    let l = c .before .before .before .before .before .before .before in
+returns-5 : tie.Need-returns-5
+returns-5 c =
+    let b = c .before .before .before .before .before .before .before in
     no _ (c .before .before .before .before .if1 .left)
-    (no _ (sym (l .before .takes-bit .ensures) ∙ c .before .before .before .if2 .left)
+    (no _ (c .before .before .before .if2 .left)
     (yes _ (c .before .if3 .taken) (c .resting .ensures)))
-    ∙ step-levels _ _ _ (l .with-levels .ensures)
+    ∙ step-by _ _ (b .before .before .takes-bit .ensures) (b .before .bit-at .ensures) (b .bit-at2 .ensures)
 
-returns-4 : tie.Need-returns-4
-returns-4 c =
-    let l = c .before .before .before .before .before .before in
+returns-6 : tie.Need-returns-6
+returns-6 c =
+    let b = c .before .before .before .before .before .before in
     no _ (c .before .before .before .if1 .left)
-    (no _ (sym (l .before .takes-bit .ensures) ∙ c .before .before .if2 .left)
+    (no _ (c .before .before .if2 .left)
     (no _ (c .if3 .left) refl))
-    ∙ step-levels _ _ _ (l .with-levels .ensures)
+    ∙ step-by _ _ (b .before .before .takes-bit .ensures) (b .before .bit-at .ensures) (b .bit-at2 .ensures)
 
 pub step-spec : {M : Type 1} → statement M
 step-spec =
     tie.close
     (tie.spec
     takes-bit-requires
-    with-levels-requires
+    bit-at-requires
+    bit-at-requires-2
     starting-requires
     returns
-    with-bit-requires
+    enum-told
     returns-2
-    resting-requires
+    enum-told-2
+    bit-at-requires-3
+    with-instruction-bit-requires
     returns-3
-    returns-4)
+    enum-told-3
+    data-line-requires
+    with-data-bit-requires
+    returns-4
+    resting-requires
+    returns-5
+    returns-6)

@@ -1,13 +1,30 @@
 -- `Session::with_instruction_bit` meets its contract: the sixteenth bit makes the instruction whole.
+use Prim.Native.Nat.{ℕ, _+_, _%_}
+use mathlib.Core.Bool.{Bool, true, cond}
+use mathlib.Core.Path.{_≡_, ap, _∙_}
+use lib.Dec.{ltb, leb}
 use borrow.Author.Tests.{lt-ltb, le-ltb}
 use Rattle.bits.proofs.Cases.{yes, no}
-use Rattle.session.specs.Step.{withInstructionBit}
+use Rattle.session.specs.declared.Session.{Session}
+use Rattle.session.specs.State.{instructing, inData}
+use Rattle.session.specs.Step.{valueWith, withInstructionBit}
+use Rattle.session.proofs.Laws.{room-for-bit}
 use borrow.Author.Needs.{needs}
 use Rattle.session.proofs.Session.with_instruction_bit.Statement.{statement}
 use Rattle.session.proofs.Session.with_instruction_bit.Tie as tie
 
-value-with-requires : tie.Need-value-with-requires
-value-with-requires c κs = search needs
+-- s with one more bit, by the value that it makes
+abbrev bitBy : Session → ℕ → Session
+bitBy s v =
+    cond (ltb (s .bits) 15) (instructing true (s .bits + 1) v (s .settings) (s .used))
+    (inData true 0 0 (v % 0x8000) (leb 0x8000 v) (s .settings) (s .used))
+
+bit-by : (s : Session) (b : Bool) {v : ℕ} → v ≡ valueWith s b → bitBy s v ≡ withInstructionBit s b
+unfolding withInstructionBit
+bit-by s b e = ap (bitBy s) e
+
+shift-in-requires : tie.Need-shift-in-requires
+shift-in-requires c κs = room-for-bit (c .args .self) (c .pre)
 
 add-instructing : tie.Need-add-instructing
 add-instructing c = search needs
@@ -16,21 +33,23 @@ instructing-requires : tie.Need-instructing-requires
 instructing-requires c κs = search needs
 
 returns : tie.Need-returns
-unfolding withInstructionBit
-returns c = yes _ (lt-ltb _ _ (c .before .before .if1 .taken)) (cc)
+returns c =
+    yes _ (lt-ltb _ _ (c .before .before .if1 .taken)) (c .instructing .ensures)
+    ∙ bit-by _ _ (c .before .before .before .before .before .before .shift-in .ensures)
 
 in-data-requires : tie.Need-in-data-requires
 in-data-requires c κs = search needs
 
 returns-2 : tie.Need-returns-2
-unfolding withInstructionBit
-returns-2 c = no _ (le-ltb _ _ (c .before .if1 .left)) (cc)
+returns-2 c =
+    no _ (le-ltb _ _ (c .before .if1 .left)) (c .in-data .ensures)
+    ∙ bit-by _ _ (c .before .before .before .before .before .shift-in .ensures)
 
 pub with-instruction-bit-spec : {M : Type 1} → statement M
 with-instruction-bit-spec =
     tie.close
     (tie.spec
-    value-with-requires
+    shift-in-requires
     add-instructing
     instructing-requires
     returns

@@ -6,18 +6,18 @@ use Rattle.trace.proofs.quiet.past_low.Statement.{statement}
 use Rattle.trace.proofs.quiet.past_low.Tie as tie
 
 past-same-requires : tie.Need-past-same-requires
-past-same-requires c κs = search needs
+past-same-requires c κs = c .before .pre .2
 
 returns : tie.Need-returns
 returns c =
     let a = c .before .before .before in
-    past (a .pre .0) _ _ (begun _ (a .pre .1) (omega arith)) (c .before .past-same .ensures)
+    past (a .pre .0) _ _ (begun _ (a .pre .1) (a .pre .2)) (c .before .past-same .ensures)
 
 shared-slice-read-x : tie.Need-shared-slice-read-x
-shared-slice-read-x c = search needs
+shared-slice-read-x c = c .before .before .before .before .pre .2
 
 returns-2 : tie.Need-returns-2
-returns-2 c = begun _ (c .before .before .before .before .before .pre .1) (omega arith)
+returns-2 c = begun _ (c .before .before .before .before .before .pre .1) (c .before .before .before .before .before .pre .2)
 
 add-t13 : tie.Need-add-t13
 add-t13 c = search needs
@@ -25,7 +25,7 @@ add-t13 c = search needs
 returns-3 : tie.Need-returns-3
 returns-3 c =
     let a = c .before .before .before .before .before .before .before in
-    idle (a .pre .0) (begun _ (a .pre .1) (omega arith)) (omega arith) (even-level _ (c .before .before .if2 .left)) (c .if3 .taken)
+    idle (a .pre .0) (begun _ (a .pre .1) (a .pre .2)) (a .pre .2) (even-level _ (c .before .before .if2 .left)) (c .if3 .taken)
 
 last-of-requires : tie.Need-last-of-requires
 last-of-requires c κs = search needs
@@ -49,10 +49,10 @@ returns-4 : tie.Need-returns-4
 returns-4 c =
     let a = c .before .before .before .before .before .before .before .before .before .before .before .before .before .before in
     rw (c .shift-in .ensures, c .before .before .bit-at .ensures, c .before .before .before .line-of .ensures)
-    (bit (a .pre .0) (begun _ (a .pre .1) (omega arith)) (omega arith) (even-level _ (c .before .before .before .before .before .before .before .before .before .if2 .left)) (c .before .before .before .before .before .before .before .if3 .left) (rw (c .before .before .before .before .before .before .last-of .ensures) at (c .before .before .before .before .if4 .taken)))
+    (bit (a .pre .0) (begun _ (a .pre .1) (a .pre .2)) (a .pre .2) (even-level _ (c .before .before .before .before .before .before .before .before .before .if2 .left)) (c .before .before .before .before .before .before .before .if3 .left) (rw (c .before .before .before .before .before .before .last-of .ensures) at (c .before .before .before .before .if4 .taken)))
 
 returns-5 : tie.Need-returns-5
-returns-5 c = begun _ (c .before .before .before .before .before .before .before .before .before .before .pre .1) (omega arith)
+returns-5 c = begun _ (c .before .before .before .before .before .before .before .before .before .before .pre .1) (c .before .before .before .before .before .before .before .before .before .before .pre .2)
 
 pub past-low-spec : {M : Type 1} → statement M
 past-low-spec =

@@ -1,8 +1,5 @@
 -- `past_same` meets its contract: one sample, and eight more where all have the same levels.
-use Prim.Native.Nat.{_+_}
-use mathlib.Core.Path.{_≡_}
-use native.Mathlib.Omega.{arith}
-use Rattle.trace.proofs.Masks.{same-first, same-none}
+use Rattle.trace.proofs.Masks.{same-none, same-one, same-nine}
 use borrow.Author.Needs.{needs}
 use Rattle.trace.proofs.words.past_same.Statement.{statement}
 use Rattle.trace.proofs.words.past_same.Tie as tie
@@ -11,7 +8,7 @@ shared-slice-read-if1 : tie.Need-shared-slice-read-if1
 shared-slice-read-if1 c = search needs
 
 returns : tie.Need-returns
-returns c = search needs
+returns c = same-none (c .before .before .before .pre)
 
 add-all-at : tie.Need-add-all-at
 add-all-at c = search needs
@@ -23,16 +20,13 @@ add-result : tie.Need-add-result
 add-result c = search needs
 
 returns-2 : tie.Need-returns-2
-returns-2 c =
-    let a = c .before .before .before .before .before .args .at in
-    let e : a + 1 + 8 ≡ a + 9 = omega arith in
-    rw e at (same-first (omega arith) (c .before .before .if1 .left) (c .before .all-at .ensures (c .if2 .taken)))
+returns-2 c = same-nine (c .before .before .before .before .before .pre) (c .before .before .if1 .left) (c .before .all-at .ensures (c .if2 .taken))
 
 add-result-2 : tie.Need-add-result-2
 add-result-2 c = search needs
 
 returns-3 : tie.Need-returns-3
-returns-3 c = same-first (omega arith) (c .before .before .if1 .left) (same-none (omega arith))
+returns-3 c = same-one (c .before .before .before .before .before .pre) (c .before .before .if1 .left)
 
 pub past-same-spec : {M : Type 1} → statement M
 past-same-spec =

@@ -1,0 +1,56 @@
+-- `configures_early` meets its contract: what is left of the run decides, until an address is found or the last byte is reached.
+use Prim.Native.Nat.{_-_}
+use mathlib.Core.Path.{refl}
+use native.Mathlib.Omega.{arith}
+use lib.ListN.{length}
+use borrow.Author.Needs.{needs}
+use Rattle.order.proofs.Early.{Looking, found, passed, missed}
+use Rattle.order.proofs.configures_early.Statement.{statement}
+use Rattle.order.proofs.configures_early.Tie as tie
+
+abbrev Inv-loop : tie.InvT-loop
+Inv-loop ascending start «data» address₀ i₀ address i = Looking ascending start «data» address i
+
+abbrev μ-loop : tie.MeasureT-loop
+μ-loop ascending start «data» address₀ i₀ address i = length «data» - i
+
+loop-holds : tie.Need-loop-holds Inv-loop μ-loop
+loop-holds c = record { within = omega arith; near = c .before .pre; rest = refl }
+
+add-loop : tie.Need-add-loop Inv-loop μ-loop
+add-loop c = search needs
+
+returns : tie.Need-returns Inv-loop μ-loop
+returns c = found (c .before .before .loop .inv) (c .before .loop-test .taken) (c .if1 .taken)
+
+next-address-requires : tie.Need-next-address-requires Inv-loop μ-loop
+next-address-requires c κs = search needs
+
+add-i : tie.Need-add-i Inv-loop μ-loop
+add-i c = search needs
+
+loop-less : tie.Need-loop-less Inv-loop μ-loop
+loop-less c = omega arith
+
+loop-again : tie.Need-loop-again Inv-loop μ-loop
+loop-again c =
+    rw (c .next-address .ensures)
+    (passed (c .before .before .before .loop .inv) (c .before .before .loop-test .taken) (c .before .if1 .left))
+
+returns-2 : tie.Need-returns-2 Inv-loop μ-loop
+returns-2 c = missed (c .before .loop .inv) (c .loop-test .left)
+
+pub configures-early-spec : {M : Type 1} → statement M
+configures-early-spec =
+    tie.close
+    (tie.spec
+    Inv-loop
+    μ-loop
+    loop-holds
+    add-loop
+    returns
+    next-address-requires
+    add-i
+    loop-less
+    loop-again
+    returns-2)

@@ -1,0 +1,58 @@
+-- Document 01, "The sender": an order, and the bytes of its run with their addresses.
+use Prim.Native.Nat.{ℕ}
+use mathlib.Core.Bool.{Bool, cond}
+use mathlib.Core.List.{List, [], _∷_}
+use lib.ListN.{replicate}
+use lib.Dec.{eqb}
+use Rattle.bits.specs.Bits.{bitAt}
+use Rattle.settings.specs.Settings.{nextAddress}
+
+-- as it is given: a direction (0 write, 1 read), a settings number, a start address, a count and the data
+pub record Order : Type 0 where
+  pub direction : ℕ
+  pub settings : ℕ
+  pub start : ℕ
+  pub count : ℕ
+  pub bytes : List ℕ
+
+abbrev pub order : ℕ → ℕ → ℕ → ℕ → List ℕ → Order
+order direction settings start count bytes = record {
+  direction = direction;
+  settings = settings;
+  start = start;
+  count = count;
+  bytes = bytes;
+}
+
+abbrev pub isRead : Order → Bool
+isRead o = eqb (o .direction) 1
+
+-- the settings number: 1 LSB first, 2 ascending, 4 single instruction, added
+abbrev pub lsbFirst : Order → Bool
+lsbFirst o = bitAt (o .settings) 0
+
+abbrev pub ascending : Order → Bool
+ascending o = bitAt (o .settings) 1
+
+abbrev pub singleInstruction : Order → Bool
+singleInstruction o = bitAt (o .settings) 2
+
+-- one byte of a run
+pub record RunByte : Type 0 where
+  pub address : ℕ
+  pub byte : ℕ
+
+-- Document 01, "The stopped run": the start, then one up (ascending) or down each time, modulo 0x8000.
+unfoldable pub runFrom : Bool → ℕ → List ℕ → List RunByte
+runFrom up a [] = []
+runFrom up a (v ∷ vs) = record { address = a; byte = v } ∷ runFrom up (nextAddress up a) vs
+
+-- what goes out in the data bits: the data of a write; of a read as many zeros as it counts
+abbrev pub sentOf : Bool → ℕ → List ℕ → List ℕ
+sentOf read count bytes = cond read (replicate count 0) bytes
+
+abbrev pub sentBytes : Order → List ℕ
+sentBytes o = sentOf (isRead o) (o .count) (o .bytes)
+
+abbrev pub runBytes : Order → List RunByte
+runBytes o = runFrom (ascending o) (o .start) (sentBytes o)

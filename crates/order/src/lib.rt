@@ -1,0 +1,95 @@
+// An order to the sender: whether it is refused, and with which number.
+ghost use mathlib.Core.Path.{_≡_};
+ghost use mathlib.Core.Bool.{cond, _&&_};
+ghost use Prim.Native.Nat.{_+_, _*_, _<_, _≤_};
+ghost use Rattle.bits.specs.Tests.{every};
+ghost use Rattle.order.specs.Order.{order, runFrom};
+ghost use Rattle.order.specs.Number.{configuresEarly, countTests, sendNumber};
+use bits::bit_at;
+use settings::next_address;
+
+// How many bytes of data an order comes with.
+fn data_due(read: bool, count: u64) -> u64
+    ensures { λ r. ⌜ r ≡ cond read 0 count ⌝ }
+{
+    if read { 0 } else { count }
+}
+
+// Whether the count is 1 to 1,000, and the data as long as it says.
+fn count_fits(direction: u64, count: u64, data: &[u8]) -> bool
+    ensures { λ r. ⌜ r ≡ every (countTests (order direction 0 0 count (now («data» .entry)))) ⌝ }
+{
+    let length = data.len() as u64;
+    (1 <= count) & (count <= 1000) & (length == data_due(direction == 1, count))
+}
+
+// Whether a run writes 0x0000 or 0x0001 anywhere but last.
+fn configures_early(ascending: bool, start: u16, data: &[u8]) -> bool
+    requires { ⌜ start < 0x8000 ⌝ }
+    ensures { λ r. ⌜ r ≡ configuresEarly (runFrom ascending start (now («data» .entry))) ⌝ }
+{
+    let mut address = start;
+    let mut i: usize = 0;
+    while i + 1 < data.len() {
+        if (address == 0x0000) | (address == 0x0001) {
+            return true;
+        }
+        address = next_address(ascending, address);
+        i += 1;
+    }
+    false
+}
+
+// Whether a write in single instruction configures early.
+fn single_configures_early(single_write: bool, ascending: bool, start: u16, data: &[u8]) -> bool
+    requires { ⌜ start < 0x8000 ⌝ }
+    ensures { λ r. ⌜ r ≡ («single_write» && configuresEarly (runFrom ascending start (now («data» .entry)))) ⌝ }
+{
+    if single_write {
+        return configures_early(ascending, start, data);
+    }
+    false
+}
+
+// How many samples a run of so many bytes takes.
+fn sample_count(single: bool, count: usize) -> usize
+    requires { ⌜ count ≤ 1000 ⌝ }
+    ensures { λ r. ⌜ r ≡ cond single (3 + 48 * count) (35 + 16 * count) ⌝ }
+{
+    if single {
+        3 + 48 * count
+    } else {
+        35 + 16 * count
+    }
+}
+
+// The number of an order with so much room: the lowest that applies, 0 where none does.
+pub fn number_of(
+    direction: u64,
+    settings: u64,
+    start: u64,
+    count: u64,
+    data: &[u8],
+    room: usize,
+) -> u8
+    ensures { λ r. ⌜ r ≡ sendNumber (order direction settings start count (now («data» .entry))) room ⌝ }
+{
+    if !((direction <= 1) & (settings <= 7)) {
+        return 7;
+    }
+    if !count_fits(direction, count, data) {
+        return 8;
+    }
+    if 0x7FFF < start {
+        return 9;
+    }
+    let s = settings as u8;
+    let single = bit_at(s, 2);
+    if single_configures_early(single & (direction != 1), bit_at(s, 1), start as u16, data) {
+        return 10;
+    }
+    if room < sample_count(single, count as usize) {
+        return 11;
+    }
+    0
+}

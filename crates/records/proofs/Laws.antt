@@ -1,0 +1,33 @@
+-- What follows from the definitions of an event's banks and record.
+use mathlib.Core.Path.{_≡_, refl, _∙_, ap}
+use mathlib.Core.List.{List}
+use Prim.Native.Nat.{ℕ, _+_, _*_}
+use lib.ListN.{length}
+use Rattle.bits.proofs.Cases.{each}
+use Rattle.settings.specs.declared.Settings.{Settings}
+use Rattle.session.specs.declared.Event.{Event}
+use Rattle.session.specs.declared.Event.the-variants.{Nothing, Whole, Aborted}
+use Rattle.registers.specs.Banks.{Banks, Mapped}
+use Rattle.registers.proofs.Laws.{mapped-write}
+use Rattle.records.specs.BanksAfter.{banksAfter}
+use Rattle.records.specs.Records.{recordOf, recordsIn}
+use Rattle.records.specs.Contracts.{Taken}
+
+-- an event keeps the sizes of the banks
+pub mapped-after : (m : List ℕ) (b : Banks) (e : Event) → Mapped m b → Mapped m (banksAfter m b e)
+unfolding banksAfter
+mapped-after m b Nothing h = h
+mapped-after m b (Whole read a v) h = each (Mapped m) read (λ e. h) (λ e. mapped-write h a v)
+mapped-after m b (Aborted a bits d) h = h
+
+-- a record has six bytes
+pub six : (m : List ℕ) (b : Banks) (t : Settings) (e : Event) → length (recordOf m b t e) ≡ 6 * recordsIn e
+unfolding recordOf
+six m b t Nothing = refl
+six m b t (Whole read a v) = each (λ (l : List ℕ). length l ≡ 6) read (λ e. refl) (λ e. refl)
+six m b t (Aborted a bits d) = refl
+
+-- so the place after an event that is taken is known without its record
+pub place-after : {m : List ℕ} {b : Banks} {t : Settings} {e : Event} {old : List ℕ} {at : ℕ} {after : Banks} {new : List ℕ} {next : ℕ}
+    → Taken m b t e old at after new next → next ≡ at + 6 * recordsIn e
+place-after {m} {b} {t} {e} {at = at} a = a .next-place ∙ ap (λ (n : ℕ). at + n) (six m b t e)

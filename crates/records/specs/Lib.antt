@@ -1,0 +1,3 @@
+pub mod BanksAfter
+pub mod Records
+pub mod Contracts

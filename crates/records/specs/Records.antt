@@ -1,0 +1,40 @@
+-- Document 01, "Records": six bytes for each event.
+use Prim.Native.Nat.{ℕ, _/_, _%_}
+use mathlib.Core.Bool.{Bool, cond}
+use mathlib.Core.List.{List, [], _∷_}
+use lib.Dec.{eqb}
+use Rattle.settings.specs.declared.Settings.{Settings}
+use Rattle.session.specs.declared.Event.{Event}
+use Rattle.session.specs.declared.Event.the-variants.{Nothing, Whole, Aborted}
+use Rattle.registers.specs.declared.Written.{Written}
+use Rattle.registers.specs.Banks.{Banks}
+use Rattle.registers.specs.Write.{writtenOf}
+use Rattle.registers.specs.Read.{dueByte}
+
+-- kind, address (big-endian), and three bytes by kind
+abbrev pub recordBytes : ℕ → ℕ → ℕ → ℕ → ℕ → List ℕ
+recordBytes kind address third fourth fifth = kind ∷ address / 256 ∷ address % 256 ∷ third ∷ fourth ∷ fifth ∷ []
+
+-- a write of v: v, the byte of the stage written or the control reading, and the effect
+abbrev pub writeRecord : ℕ → ℕ → Written → List ℕ
+writeRecord a v w = recordBytes 1 a v (w .byte) (w .effect)
+
+-- a read: the due byte, the byte on the line, and 0 if they are equal, else 1
+abbrev pub readRecord : ℕ → ℕ → ℕ → List ℕ
+readRecord a due line = recordBytes 2 a due line (cond (eqb due line) 0 1)
+
+-- an abort (the paper's cut): the bits of the broken piece, and 0 in an instruction, 1 in data
+abbrev pub abortRecord : ℕ → ℕ → Bool → List ℕ
+abortRecord a bits inData = recordBytes 3 a bits (cond inData 1 0) 0
+
+-- the record of an event, by the banks and settings before it
+unfoldable pub recordOf : List ℕ → Banks → Settings → Event → List ℕ
+recordOf m b t Nothing = []
+recordOf m b t (Whole read a v) = cond read (readRecord a (dueByte m b t a) v) (writeRecord a v (writtenOf m b t a v))
+recordOf m b t (Aborted a bits inData) = abortRecord a bits inData
+
+-- how many records an event gives
+abbrev pub recordsIn : Event → ℕ
+recordsIn Nothing = 0
+recordsIn (Whole read a v) = 1
+recordsIn (Aborted a bits inData) = 1

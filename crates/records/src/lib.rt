@@ -1,0 +1,131 @@
+// What an event does to the banks, and the six bytes that it is recorded as.
+ghost use mathlib.Core.Path.{_≡_};
+ghost use Prim.Native.Nat.{_+_, _≤_};
+ghost use lib.ListN.{length};
+ghost use lib.Seq.{sets};
+ghost use Rattle.registers.specs.Banks.{banks};
+ghost use Rattle.records.specs.Records.{recordsIn, recordBytes, readRecord, abortRecord};
+ghost use Rattle.records.specs.Contracts.{Taking, Taken};
+use session::Event;
+use settings::Settings;
+
+// How many bytes a record has.
+pub const RECORD: usize = 6;
+
+const WRITE: u8 = 1;
+
+const READ: u8 = 2;
+
+const ABORT: u8 = 3;
+
+// How many records an event gives.
+pub fn records_in(event: Event) -> usize
+    ensures { λ r. ⌜ r ≡ recordsIn event ⌝ }
+{
+    match event {
+        Event::Nothing => 0,
+        Event::Whole {
+            read: _,
+            address: _,
+            byte: _,
+        } => 1,
+        Event::Aborted {
+            address: _,
+            bits: _,
+            data: _,
+        } => 1,
+    }
+}
+
+// Puts a record at a place.
+fn put_record(
+    records: &mut [u8],
+    at: usize,
+    kind: u8,
+    address: u16,
+    third: u8,
+    fourth: u8,
+    fifth: u8,
+)
+    requires { ⌜ at + 6 ≤ length (now records) ⌝ }
+    ensures { λ r. ⌜ now (records .exit) ≡ sets (now (records .entry)) at (recordBytes kind address third fourth fifth) ⌝ }
+{
+    records[at] = kind;
+    records[at + 1] = (address / 256) as u8;
+    records[at + 2] = (address % 256) as u8;
+    records[at + 3] = third;
+    records[at + 4] = fourth;
+    records[at + 5] = fifth;
+}
+
+// Puts the record of a read at a place: the due byte, the byte on the line, and whether they differ.
+fn put_read(records: &mut [u8], at: usize, address: u16, due: u8, line: u8)
+    requires { ⌜ at + 6 ≤ length (now records) ⌝ }
+    ensures { λ r. ⌜ now (records .exit) ≡ sets (now (records .entry)) at (readRecord address due line) ⌝ }
+{
+    if due == line {
+        put_record(records, at, READ, address, due, line, 0);
+    } else {
+        put_record(records, at, READ, address, due, line, 1);
+    }
+}
+
+// Puts the record of an abort at a place.
+fn put_abort(records: &mut [u8], at: usize, address: u16, bits: u8, in_data: bool)
+    requires { ⌜ at + 6 ≤ length (now records) ⌝ }
+    ensures { λ r. ⌜ now (records .exit) ≡ sets (now (records .entry)) at (abortRecord address bits «in_data») ⌝ }
+{
+    if in_data {
+        put_record(records, at, ABORT, address, bits, 1, 0);
+    } else {
+        put_record(records, at, ABORT, address, bits, 0, 0);
+    }
+}
+
+// Does what an event does to the banks, and puts its record at a place; the place after it.
+pub fn take_event(
+    map: &[u8],
+    active: &mut [u8],
+    buffer: &mut [u8],
+    settings: Settings,
+    event: Event,
+    records: &mut [u8],
+    at: usize,
+) -> usize
+    requires { ⌜ Taking (now map) (banks (now active) (now buffer)) settings event (now records) at ⌝ }
+    ensures { λ r. ⌜ Taken (now (map .entry)) (banks (now (active .entry)) (now (buffer .entry))) settings event (now (records .entry)) at (banks (now (active .exit)) (now (buffer .exit))) (now (records .exit)) r ⌝ }
+{
+    match event {
+        Event::Nothing => at,
+        Event::Whole {
+            read,
+            address,
+            byte,
+        } => {
+            if read {
+                let due = registers::due_byte(map, active, buffer, settings, address);
+                put_read(records, at, address, due, byte);
+                return at + RECORD;
+            }
+            let written = registers::write(map, active, buffer, settings, address, byte);
+            put_record(
+                records,
+                at,
+                WRITE,
+                address,
+                byte,
+                written.byte,
+                written.effect,
+            );
+            at + RECORD
+        }
+        Event::Aborted {
+            address,
+            bits,
+            data,
+        } => {
+            put_abort(records, at, address, bits, data);
+            at + RECORD
+        }
+    }
+}

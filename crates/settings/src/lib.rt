@@ -1,0 +1,52 @@
+// The settings of the serial control interface: the six of a session, the four that an instruction has in use, and which way they
+// send the address. What a write to a control register makes of them, and what it reads as, is in control.rt.
+ghost use mathlib.Core.Path.{_≡_};
+ghost use Prim.Native.Nat.{_<_};
+ghost use Rattle.settings.specs.Settings.{inUseOf, nextAddress};
+
+mod control;
+
+pub use control::asks_reset;
+
+pub struct Settings {
+    pub lsb: bool,
+    pub ascending: bool,
+    pub sdo: bool,
+    pub single: bool,
+    pub readback: bool,
+    pub slow: bool,
+}
+
+// The settings in use: those that an instruction took when it started.
+pub struct InUse {
+    pub lsb: bool,
+    pub ascending: bool,
+    pub sdo: bool,
+    pub single: bool,
+}
+
+impl Settings {
+    // The settings that an instruction takes when it starts.
+    pub fn in_use(self) -> InUse
+        ensures { λ r. ⌜ r ≡ inUseOf self ⌝ }
+    {
+        InUse {
+            lsb: self.lsb,
+            ascending: self.ascending,
+            sdo: self.sdo,
+            single: self.single,
+        }
+    }
+}
+
+// The address after a whole byte.
+pub fn next_address(ascending: bool, address: u16) -> u16
+    requires { ⌜ address < 0x8000 ⌝ }
+    ensures { λ r. ⌜ r ≡ nextAddress ascending address ⌝ }
+{
+    if ascending {
+        (address + 1) % 0x8000
+    } else {
+        (address + 0x7FFF) % 0x8000
+    }
+}
