@@ -1,5 +1,5 @@
 # Two commands do everything: `make run` builds the programs and reads an example, `make test` is the gate.
-.PHONY: run build test clean
+.PHONY: run build test bench clean
 
 # The example: a map, and the samples that the sender makes of one write, into the reader.
 run: build
@@ -14,6 +14,12 @@ build:
 
 test:
 	@.ci/run
+
+# Times the proved side against the second implementation, and draws docs/performance.svg (docs/PERFORMANCE.md).
+bench: build
+	@rt staticlib benchmark >target/build.log 2>&1 || { cat target/build.log; exit 1; }
+	@CARGO_TARGET_DIR=target/cargo cargo build --release --quiet --offline --manifest-path benchmark/Cargo.toml
+	@target/cargo/release/couplingnut-benchmark measure
 
 clean:
 	rm -rf target

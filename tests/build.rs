@@ -1,4 +1,4 @@
-//! Says where `libhost.a` is to the test `host`, which links it. Where it is
+//! Says where `libhost.a` is to `library`, which links it. Where it is
 //! missing the other tests are built and run all the same.
 
 use std::path::{Path, PathBuf};

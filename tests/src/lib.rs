@@ -4,12 +4,13 @@
 //! definitions that the verified programs are proved against: where the two
 //! agree on thousands of inputs, a slip in reading the document would have to
 //! have been made twice. [`generate`] makes those inputs from a seed.
-//! [`program`] runs busread, and [`chip`] is a register map with its session
+//! [`program`] runs busread, [`library`] calls what is exported to C, and [`chip`] is a register map with its session
 //! and banks, for tests that read a few frames and look at what came of them.
 
 #![deny(warnings, unsafe_code)]
 
 pub mod chip;
 pub mod generate;
+pub mod library;
 pub mod program;
 pub mod second;

@@ -1,0 +1,123 @@
+//! The two sides: the proved libraries, called as C would, and the second
+//! implementation. Each call of either has a symbol that an instruction count
+//! can be switched on by.
+
+#![allow(unsafe_code)]
+
+use couplingnut_tests::library;
+use couplingnut_tests::second::map::map_test;
+use couplingnut_tests::second::reader::{open, read};
+use couplingnut_tests::second::sender::{send, Order};
+
+#[derive(Clone, Copy, Debug, PartialEq, Eq)]
+pub enum Side {
+    Proved,
+    Second,
+}
+
+/// What a call is lent, and what it answers.
+#[derive(Clone, Debug, PartialEq, Eq)]
+pub struct Space {
+    pub active: Vec<u8>,
+    pub buffer: Vec<u8>,
+    /// Records, or outgoing samples.
+    pub out: Vec<u8>,
+    pub number: u32,
+    pub count: u64,
+}
+
+impl Space {
+    pub fn new(registers: usize, room: usize) -> Self {
+        Space {
+            active: vec![0xA5; registers],
+            buffer: vec![0x5A; registers],
+            out: vec![0xEE; room],
+            number: 99,
+            count: 99,
+        }
+    }
+}
+
+#[link(name = "benchmark", kind = "static")]
+extern "C" {
+    fn benchmark_read(
+        map: *const u8,
+        map_length: usize,
+        active: *mut u8,
+        active_length: usize,
+        buffer: *mut u8,
+        buffer_length: usize,
+        samples: *const u8,
+        samples_length: usize,
+        records: *mut u8,
+        records_length: usize,
+        count: *mut u64,
+    ) -> u32;
+}
+
+/// Opens and reads from the opened session.
+pub fn read_by(side: Side, map: &[u8], samples: &[u8], space: &mut Space) {
+    match side {
+        Side::Proved => {
+            let Space { active, buffer, out, count, .. } = space;
+            // SAFETY: the pointers and lengths are those of slices, and what is
+            // written is borrowed for this call alone.
+            space.number = unsafe {
+                benchmark_read(
+                    map.as_ptr(),
+                    map.len(),
+                    active.as_mut_ptr(),
+                    active.len(),
+                    buffer.as_mut_ptr(),
+                    buffer.len(),
+                    samples.as_ptr(),
+                    samples.len(),
+                    out.as_mut_ptr(),
+                    out.len(),
+                    count,
+                )
+            };
+        }
+        Side::Second => second_read(map, samples, space),
+    }
+}
+
+#[no_mangle]
+#[inline(never)]
+fn second_read(map: &[u8], samples: &[u8], space: &mut Space) {
+    let Space { active, buffer, out, .. } = space;
+    let (number, mut session) = open(map, active, buffer);
+    if number != 0 {
+        (space.number, space.count) = (number.into(), 0);
+        return;
+    }
+    let answer = read(map, &mut session, active, buffer, samples, out);
+    (space.number, space.count) = (answer.number.into(), answer.count as u64);
+}
+
+pub fn send_by(side: Side, order: &Order, space: &mut Space) {
+    match side {
+        Side::Proved => (space.number, space.count) = library::send(order, &mut space.out),
+        Side::Second => second_send(order, space),
+    }
+}
+
+#[no_mangle]
+#[inline(never)]
+fn second_send(order: &Order, space: &mut Space) {
+    let answer = send(order, &mut space.out);
+    (space.number, space.count) = (answer.number.into(), answer.count as u64);
+}
+
+pub fn test_by(side: Side, map: &[u8], space: &mut Space) {
+    space.number = match side {
+        Side::Proved => library::map_test(map),
+        Side::Second => second_map_test(map),
+    };
+}
+
+#[no_mangle]
+#[inline(never)]
+fn second_map_test(map: &[u8]) -> u32 {
+    map_test(map).into()
+}

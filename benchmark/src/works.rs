@@ -1,0 +1,166 @@
+//! The works of the table: what one call does, and how much slower than the
+//! second implementation it may be.
+
+use couplingnut_tests::chip::sent;
+use couplingnut_tests::second::sender::Order;
+
+use crate::inputs;
+use crate::sides::{read_by, send_by, test_by, Side, Space};
+
+/// The most samples of one call.
+pub const SAMPLES: usize = 65_536;
+const RECORD: usize = 6;
+const REGISTERS: usize = 512;
+const MOST_REGISTERS: usize = 8_192;
+/// The longest order, its samples in single instruction, and where it starts.
+const ORDERED: usize = 1_000;
+const ORDERED_SAMPLES: usize = 48_003;
+const START: u64 = 0x2000;
+
+/// How much of the second implementation's time a work may take, and is hoped to.
+#[derive(Clone, Copy)]
+pub struct Limit {
+    pub most: f64,
+    pub stretch: f64,
+}
+
+impl Limit {
+    /// Only looked at.
+    pub const NONE: Limit = Limit { most: f64::INFINITY, stretch: f64::INFINITY };
+}
+
+pub struct Work {
+    pub name: &'static str,
+    pub limit: Limit,
+    /// What the cost is divided by: samples, or registers of a map.
+    pub units: usize,
+    job: Job,
+}
+
+enum Job {
+    Read { map: Vec<u8>, samples: Vec<u8>, room: usize },
+    Send { settings: u64, data: Vec<u8> },
+    Test { map: Vec<u8> },
+}
+
+impl Work {
+    /// Reading with room that is sure to suffice.
+    pub fn read(name: &'static str, limit: Limit, registers: usize, samples: Vec<u8>) -> Self {
+        let room = RECORD * samples.len().div_ceil(3);
+        let (map, units) = (inputs::map(registers), samples.len());
+        Work { name, limit, units, job: Job::Read { map, samples, room } }
+    }
+
+    /// The same with the room that the records take and no more, so that they
+    /// have to be counted first.
+    fn read_counted(name: &'static str, limit: Limit, samples: Vec<u8>) -> Self {
+        let (map, units) = (inputs::map(REGISTERS), samples.len());
+        let room = RECORD * inputs::records(&map, &samples);
+        Work { name, limit, units, job: Job::Read { map, samples, room } }
+    }
+
+    fn send(name: &'static str, settings: u64) -> Self {
+        let limit = Limit { most: 1.2, stretch: 1.0 };
+        let data = inputs::bytes(ORDERED);
+        let units = sent(&order(settings, &data)).len();
+        Work { name, limit, units, job: Job::Send { settings, data } }
+    }
+
+    pub fn test(registers: usize) -> Self {
+        let limit = Limit { most: 1.5, stretch: 1.0 };
+        let job = Job::Test { map: inputs::map(registers) };
+        Work { name: "map-test", limit, units: registers, job }
+    }
+
+    pub fn space(&self) -> Space {
+        match &self.job {
+            Job::Read { map, room, .. } => Space::new((map.len() - 5) / 3, *room),
+            Job::Send { .. } => Space::new(0, ORDERED_SAMPLES),
+            Job::Test { .. } => Space::new(0, 0),
+        }
+    }
+
+    /// One call by one side.
+    pub fn call(&self, side: Side, space: &mut Space) {
+        match &self.job {
+            Job::Read { map, samples, .. } => read_by(side, map, samples, space),
+            Job::Send { settings, data } => send_by(side, &order(*settings, data), space),
+            Job::Test { map } => test_by(side, map, space),
+        }
+    }
+
+    /// The symbol of the function that the call is.
+    pub fn symbol(&self, side: Side) -> &'static str {
+        match (&self.job, side) {
+            (Job::Read { .. }, Side::Proved) => "benchmark_read",
+            (Job::Read { .. }, Side::Second) => "second_read",
+            (Job::Send { .. }, Side::Proved) => "couplingnut_send",
+            (Job::Send { .. }, Side::Second) => "second_send",
+            (Job::Test { .. }, Side::Proved) => "couplingnut_map_test",
+            (Job::Test { .. }, Side::Second) => "second_map_test",
+        }
+    }
+
+    /// Both sides on the same input: what they answer and leave is the same,
+    /// byte for byte, and no refusal.
+    pub fn compare(&self) {
+        let (mut proved, mut second) = (self.space(), self.space());
+        self.call(Side::Proved, &mut proved);
+        self.call(Side::Second, &mut second);
+        assert!(proved == second, "{}: the two sides differ", self.name);
+        assert_eq!(proved.number, 0, "{}: refused", self.name);
+    }
+}
+
+fn order(settings: u64, data: &[u8]) -> Order<'_> {
+    Order { direction: 0, settings, start: START, count: data.len() as u64, data }
+}
+
+/// The works of one call each, in the order of the table.
+const NAMES: [&str; 14] = [
+    "read-dense",
+    "read-dense-lsb",
+    "read-single",
+    "read-mixed",
+    "read-four-times",
+    "read-ten-times",
+    "read-random",
+    "counted-dense",
+    "counted-random",
+    "send-msb",
+    "send-lsb",
+    "send-single-msb",
+    "send-single-lsb",
+    "map-test",
+];
+
+pub fn works() -> impl Iterator<Item = Work> {
+    NAMES.iter().map(|name| work(name).expect("each name has its work"))
+}
+
+/// The work of this name.
+pub fn work(name: &str) -> Option<Work> {
+    let name = *NAMES.iter().find(|known| **known == name)?;
+    let frames = Limit { most: 0.9, stretch: 0.7 };
+    let often = Limit { most: 0.8, stretch: 0.4 };
+    let noise = Limit { most: 1.5, stretch: 1.1 };
+    let counted = Limit { most: 2.0, stretch: 1.5 };
+    let read = |limit, samples| Work::read(name, limit, REGISTERS, samples);
+    Some(match name {
+        "read-dense" => read(frames, inputs::dense(0, SAMPLES)),
+        "read-dense-lsb" => read(frames, inputs::dense(1, SAMPLES)),
+        "read-single" => read(frames, inputs::dense(4, SAMPLES)),
+        "read-mixed" => read(frames, inputs::mixed(SAMPLES)),
+        "read-four-times" => read(Limit::NONE, inputs::oversampled(4, SAMPLES)),
+        "read-ten-times" => read(often, inputs::oversampled(10, SAMPLES)),
+        "read-random" => read(noise, inputs::noise(SAMPLES)),
+        "counted-dense" => Work::read_counted(name, counted, inputs::dense(0, SAMPLES)),
+        "counted-random" => Work::read_counted(name, counted, inputs::noise(SAMPLES)),
+        "send-msb" => Work::send(name, 0),
+        "send-lsb" => Work::send(name, 1),
+        "send-single-msb" => Work::send(name, 4),
+        "send-single-lsb" => Work::send(name, 5),
+        "map-test" => Work::test(MOST_REGISTERS),
+        _ => return None,
+    })
+}

@@ -1,0 +1,28 @@
+-- Opening and one call of the reader after it.
+use Prim.Native.Nat.{ℕ}
+use mathlib.Core.Bool.{cond}
+use mathlib.Core.List.{List}
+use lib.Dec.{eqb}
+use Rattle.registers.specs.Banks.{Banks}
+use Rattle.reader.specs.Calls.{Opening, Outcome, readOf}
+
+-- what the two calls leave: the number, how many records, both banks, and the record buffer
+pub record Left : Type 0 where
+  pub number : ℕ
+  pub count : ℕ
+  pub banks : Banks
+  pub records : List ℕ
+
+abbrev pub left : ℕ → ℕ → Banks → List ℕ → Left
+left number count b records = record { number = number; count = count; banks = b; records = records }
+
+-- what the reader leaves, without the session
+abbrev pub leftBy : Outcome → Left
+leftBy o = left (o .number) (o .count) (o .world .banks) (o .records)
+
+-- Reading on from what opening left; a refused opening is all.
+unfoldable pub readFrom : List ℕ → Opening → List ℕ → List ℕ → Left
+readFrom m o samples records =
+    cond (eqb (o .number) 0)
+    (leftBy (readOf m (record { session = o .session; banks = o .banks }) samples records))
+    (left (o .number) 0 (o .banks) records)
