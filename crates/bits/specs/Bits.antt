@@ -1,6 +1,6 @@
 -- Single bits of a number: a test, the masked merge of two bytes, and one more bit shifted into a value.
 use Prim.Native.Nat.{ℕ, zero, suc, _+_, _*_, _/_, _%_, _^_}
-use mathlib.Core.Bool.{Bool, true, false, cond}
+use mathlib.Core.Bool.{Bool, cond}
 use lib.Dec.{eqb}
 
 -- bit i of x is one; bit 0 is the lowest

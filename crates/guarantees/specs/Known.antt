@@ -1,9 +1,9 @@
 -- Document 01, "Known results": every starred line, as one table.
-use Prim.Native.Nat.{ℕ, zero, suc, _+_, _*_}
+use Prim.Native.Nat.{ℕ, zero, suc, _+_}
 use mathlib.Core.Path.{_≡_}
 use mathlib.Core.Bool.{Bool, true, false}
 use mathlib.Core.List.{List, [], _∷_, _++_}
-use lib.ListN.{length, take, replicate, getD}
+use lib.ListN.{length, replicate, getD}
 use Rattle.bits.specs.Bits.{merged}
 use Rattle.regmap.specs.Format.{lengthOf, countOf}
 use Rattle.regmap.specs.MapTest.{mapNumber}

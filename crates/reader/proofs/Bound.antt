@@ -1,9 +1,9 @@
 -- Document 01, "Records": 4,096 samples never give more than 1,366 records. A record takes three samples, but for the first:
 -- each session has at most two of the three behind it.
 use mathlib.Core.Path.{_≡_, refl}
-use mathlib.Core.Bool.{Bool, true, false, cond, not, _&&_}
+use mathlib.Core.Bool.{Bool, true, false, cond}
 use mathlib.Core.List.{List, [], _∷_}
-use Prim.Native.Nat.{ℕ, _+_, _*_, _<_, _≤_}
+use Prim.Native.Nat.{ℕ, _+_, _*_, _≤_}
 use native.Mathlib.Omega.{arith}
 use lib.Dec.{eqb, ltb}
 use lib.ListN.{length}
@@ -15,7 +15,7 @@ use Rattle.session.specs.declared.Phase.the-variants.{Rest, Instruction, Data}
 use Rattle.session.specs.declared.Session.{Session}
 use Rattle.session.specs.declared.Event.{Event}
 use Rattle.session.specs.declared.Event.the-variants.{Nothing, Whole, Aborted}
-use Rattle.session.specs.Step.{stepOf, csbOf, sclkOf, withBit, withDataBit, afterByte, withInstructionBit, settingsOnByte, valueWith, dataLine, sdioOf}
+use Rattle.session.specs.Step.{stepOf, csbOf, sclkOf, withBit, withDataBit, afterByte, settingsOnByte, valueWith, dataLine}
 use Rattle.session.specs.Event.{eventOf, bitEvent, abortEvent, isData}
 use Rattle.records.specs.Records.{recordsIn}
 use Rattle.reader.specs.Reading.{recordCount}

@@ -3,7 +3,6 @@
 // Two public calls, `open` and `read`, with no `requires`: anything may be handed in, and what cannot be read is refused with
 // document 01's number before anything is changed.
 ghost use mathlib.Core.Path.{_≡_};
-ghost use lib.ListN.{length};
 ghost use Rattle.regmap.specs.MapTest.{mapNumber};
 ghost use Rattle.registers.specs.Banks.{banks};
 ghost use Rattle.reader.specs.Reading.{world};

@@ -1,8 +1,8 @@
 -- An event taken, by its case.
 use mathlib.Core.Path.{_≡_, refl, sym, _∙_, ap}
-use mathlib.Core.Bool.{Bool, true, false, cond}
+use mathlib.Core.Bool.{Bool, true, false}
 use mathlib.Core.List.{List}
-use Prim.Native.Nat.{ℕ, _+_, _*_, _≤_}
+use Prim.Native.Nat.{ℕ, _+_, _≤_}
 use native.Mathlib.Omega.{arith}
 use native.Mathlib.Nat.{add-zero}
 use lib.ListN.{length}
@@ -12,7 +12,7 @@ use Rattle.session.specs.declared.Event.{Event}
 use Rattle.session.specs.declared.Event.the-variants.{Nothing, Whole, Aborted}
 use Rattle.registers.specs.declared.Written.{Written}
 use Rattle.registers.specs.Banks.{Banks}
-use Rattle.registers.specs.Write.{Wrote, writtenOf}
+use Rattle.registers.specs.Write.{Wrote}
 use Rattle.registers.specs.Read.{dueByte}
 use Rattle.records.specs.Records.{recordOf, recordsIn, writeRecord, readRecord, abortRecord}
 use Rattle.records.specs.BanksAfter.{banksAfter}

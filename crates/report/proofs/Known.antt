@@ -1,7 +1,7 @@
 -- Document 01, "The bench program": the case that it prints, line by line; and decimal at both ends of 64 bits.
 use mathlib.Core.Path.{_≡_, refl}
-use mathlib.Core.List.{List, [], _∷_}
-use Prim.Native.Nat.{ℕ, _-_, _^_}
+use mathlib.Core.List.{[], _∷_}
+use Prim.Native.Nat.{_-_, _^_}
 use Rattle.report.specs.Numbers.{bytesOf, decimalIn, decimalOf}
 use Rattle.report.specs.Text.{lineOf, mapLine, countLine, refusedLine}
 

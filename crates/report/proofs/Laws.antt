@@ -10,7 +10,6 @@ use lib.Seq.{sets, length-sets, length-take-le, take-all, drop-drop}
 use lib.Dec.{eqb}
 use borrow.Author.Tests.{eq-eqb, ne-eqb, lt-ltb}
 use Rattle.io.specs.Digits.{digits, glyph, Fewest}
-use Rattle.bits.specs.Buffer.{filled}
 use Rattle.bits.proofs.Buffer.{sets-append, sets-filled}
 use Rattle.bits.proofs.Cases.{each}
 use Rattle.report.specs.Numbers.{bytesOf, digitOf, decimalIn, decimalOf}

@@ -2,8 +2,7 @@
 ghost use mathlib.Core.Path.{_≡_};
 ghost use mathlib.Core.List.{_∷_, [], _++_};
 ghost use Prim.Native.Nat.{_+_, _<_, _≤_, min};
-ghost use lib.Seq.{sets};
-ghost use lib.ListN.{length, drop};
+ghost use lib.ListN.{length};
 ghost use Rattle.report.specs.Numbers.{digitOf, decimalOf};
 ghost use Rattle.report.specs.Text.{letterOf, lineOf, mapLine, countLine, refusedLine};
 ghost use Rattle.report.specs.Put.{Placed, Printed, Listed};

@@ -1,4 +1,4 @@
--- A sound session is fit, and each sample keeps it fit and sound; what is known of a session at rest, and of a byte of data.
+-- A sound session is fit, and each sample keeps it sound; what is known of a session at rest, and of a byte of data.
 use Prim.Native.Nat.{ℕ, _+_, _^_, _<_}
 use mathlib.Core.Bool.{Bool, true, false, false≢true}
 use mathlib.Core.Path.{_≡_, refl}
@@ -6,16 +6,14 @@ use native.Mathlib.Omega.{arith}
 use native.Mathlib.Nat.{lt-of-lt-of-le}
 use lib.Dec.{lit<}
 use lib.Pow.{pow-mono}
-use Rattle.bits.proofs.Cases.{each}
 use Rattle.bits.proofs.Laws.{shifted-lt}
-use Rattle.settings.specs.Settings.{inUseOf}
 use Rattle.session.specs.declared.Phase.{Phase}
 use Rattle.session.specs.declared.Phase.the-variants.{Rest, Instruction, Data}
 use Rattle.session.specs.declared.Session.{Session}
-use Rattle.session.specs.State.{withLevels, openedSession, soundSession, isRest, widthOf, Fit}
-use Rattle.session.specs.Step.{sclkOf, sdioOf, csbFalls, csbRises, takesBit, valueWith, dataLine, withBit, stepOf}
+use Rattle.session.specs.State.{openedSession, soundSession, isRest, widthOf, Fit}
+use Rattle.session.specs.Step.{valueWith, stepOf}
 use Rattle.session.specs.Event.{isData}
-use Rattle.session.proofs.Form.{Form, rests, instructs, has-data, form-sound, sound-form, form-instruction, form-data, form-step}
+use Rattle.session.proofs.Form.{Form, rests, instructs, has-data, form-sound, sound-form, form-step}
 
 fit-form : {s : Session} → Form s → Fit s
 fit-form (rests k t) = record { unfinished = lit< tt; small = lit< tt; near = lit< tt }
@@ -24,21 +22,6 @@ fit-form (has-data k n v a r t u h g f) = record { unfinished = h; small = g; ne
 
 pub fit-sound : (s : Session) → soundSession s ≡ true → Fit s
 fit-sound s h = fit-form (sound-form s h)
-
-pub fit-levels : (s : Session) (x : ℕ) → Fit s → Fit (withLevels s x)
-fit-levels s x f = record { unfinished = f .unfinished; small = f .small; near = f .near }
-
-fit-bit : (p : Phase) (s : Session) (x : ℕ) → s .bits < widthOf p → Fit s → Fit (withBit p s x)
-fit-bit Rest s x h f = fit-levels s x f
-fit-bit Instruction s x h f = fit-form (form-instruction s (sdioOf x) h (f .small))
-fit-bit Data s x h f = fit-form (form-data s (dataLine s x) h (f .small) (f .near))
-
-pub fit-step : (s : Session) (x : ℕ) → Fit s → Fit (stepOf s x)
-unfolding stepOf
-fit-step s x f =
-    each Fit (csbFalls s x) (λ e. fit-form (instructs (sclkOf x) 0 0 (s .settings) (inUseOf (s .settings)) (lit< tt) (lit< tt)))
-    (λ e. each Fit (takesBit s x) (λ e. fit-bit (s .phase) s x (f .unfinished) f)
-    (λ e. each Fit (csbRises s x) (λ e. fit-form (rests (sclkOf x) (s .settings))) (λ e. fit-levels s x f)))
 
 pub sound-step : (s : Session) (x : ℕ) → soundSession s ≡ true → soundSession (stepOf s x) ≡ true
 sound-step s x h = form-sound (form-step (sound-form s h) x)
