@@ -18,8 +18,8 @@ test:
 # Times the proved side against the second implementation, and draws docs/performance.svg (docs/PERFORMANCE.md).
 bench: build
 	@rt staticlib benchmark >target/build.log 2>&1 || { cat target/build.log; exit 1; }
-	@CARGO_TARGET_DIR=target/cargo cargo build --release --quiet --offline --manifest-path benchmark/Cargo.toml
-	@target/cargo/release/couplingnut-benchmark measure
+	@cargo build --release --quiet --offline -p couplingnut-benchmark
+	@cargo run --release --quiet --offline -p couplingnut-benchmark -- measure
 
 clean:
 	rm -rf target
