@@ -7,7 +7,7 @@ use borrow.Author.Tests.{eq-eqb, ne-eqb}
 use Rattle.bits.proofs.Cases.{yes, no}
 use Rattle.session.specs.declared.Session.{Session}
 use Rattle.registers.specs.Banks.{Banks}
-use Rattle.reader.specs.Reading.{World}
+use Rattle.run.specs.Reading.{World}
 use Rattle.reader.specs.Calls.{Opening, opening, outcome, readOf}
 use Rattle.benchmark.specs.Fresh.{left, leftBy, readFrom}
 

@@ -23,8 +23,7 @@ pub extern "C" fn benchmark_read(
         *count = 0;
         return opened.number as u32;
     }
-    let session = opened.session;
-    let answer = read(map, session, active, buffer, samples, records);
+    let answer = read(map, opened.session, active, buffer, samples, records);
     *count = answer.count as u64;
     answer.number as u32
 }

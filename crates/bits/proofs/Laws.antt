@@ -28,6 +28,16 @@ pub lowest-bit : (x : ℕ) → bitAt x 0 ≡ eqb (x % 2) 1
 unfolding bitAt
 lowest-bit x = let e : x / 2 ^ 0 ≡ x = omega arith in ap (λ (k : ℕ). eqb (k % 2) 1) e
 
+-- the complement of a mask: its half, and its lowest bit
+rest-half : (w m : ℕ) → m < 2 ^ suc w → (2 ^ suc w - 1 - m) / 2 ≡ 2 ^ w - 1 - m / 2
+rest-half w m h = omega (arith, pow-suc 2 w)
+
+rest-odd : (w m : ℕ) → m < 2 ^ suc w → (2 ^ suc w - 1 - m) % 2 ≡ 1 - m % 2
+rest-odd w m h = omega (arith, pow-suc 2 w)
+
+half-lt : (w x : ℕ) → x < 2 ^ suc w → x / 2 < 2 ^ w
+half-lt w x h = omega (arith, pow-suc 2 w)
+
 -- (old & !mask) | (new & mask), of w bits
 pub mask-merge : (w o n m : ℕ) → o < 2 ^ w → n < 2 ^ w → m < 2 ^ w → bitOr (bitAnd o (2 ^ w - 1 - m)) (bitAnd n m) ≡ merged w o n m
 unfolding merged
@@ -36,12 +46,9 @@ mask-merge zero o n m ho hn hm =
     let en : n ≡ 0 = omega arith in
     rw (eo, en)
 mask-merge (suc w) o n m ho hn hm =
-    let p = pow-suc 2 w in
-    let half : (2 ^ suc w - 1 - m) / 2 ≡ 2 ^ w - 1 - m / 2 = omega (arith, p) in
-    let odd : (2 ^ suc w - 1 - m) % 2 ≡ 1 - m % 2 = omega (arith, p) in
     let low = one-bit (o % 2) (n % 2) (m % 2) (omega arith) (omega arith) (omega arith) in
-    let high = mask-merge w (o / 2) (n / 2) (m / 2) (omega (arith, p)) (omega (arith, p)) (omega (arith, p)) in
-    or-step (bitAnd o (2 ^ suc w - 1 - m)) (bitAnd n m) ∙ simp (and-half, and-odd, half, odd, low, high, lowest-bit)
+    let high = mask-merge w (o / 2) (n / 2) (m / 2) (half-lt w o ho) (half-lt w n hn) (half-lt w m hm) in
+    or-step (bitAnd o (2 ^ suc w - 1 - m)) (bitAnd n m) ∙ simp (and-half, and-odd, rest-half w m hm, rest-odd w m hm, low, high, lowest-bit)
 
 byte-bit : (b : Bool) → boolByte b ≡ bitOf b
 byte-bit true = refl

@@ -1,6 +1,6 @@
 -- What the program's functions cite of what came from standard input and of what the reader left.
 use mathlib.Core.Path.{_≡_, ap}
-use Prim.Native.Nat.{ℕ, _*_, _%_, _≤_}
+use Prim.Native.Nat.{ℕ, _+_, _*_, _%_, _≤_}
 use mathlib.Core.Bool.{_&&_}
 use mathlib.Core.List.{List}
 use native.Mathlib.Omega.{arith}
@@ -11,10 +11,11 @@ use borrow.Author.Tests.{eqb-true, leb-true}
 use Rattle.bits.proofs.Cases.{each, and-left, and-right}
 use Rattle.session.specs.declared.Session.{Session}
 use Rattle.registers.specs.Banks.{Banks}
-use Rattle.reader.specs.Reading.{World}
-use Rattle.reader.specs.Calls.{Opening, opening, openNumber, openOf, Outcome, outcome, readNumber, readOf}
-use Rattle.reader.proofs.Bound.{piece-bound}
-use Rattle.reader.proofs.Refusals.{open-number-most, read-number-most, read-tests}
+use Rattle.run.specs.Reading.{World}
+use Rattle.run.proofs.Bound.{piece-bound}
+use Rattle.refusals.specs.Numbers.{openNumber, readNumber}
+use Rattle.refusals.proofs.Laws.{open-number-most, read-number-most, read-tests}
+use Rattle.reader.specs.Calls.{Opening, opening, openOf, Outcome, outcome, readOf}
 use Rattle.busread.specs.declared.Filled.{Filled}
 use Rattle.busread.specs.declared.Filled.the-variants.{Bytes, Failed}
 use Rattle.busread.specs.Bounds.{Within, mapEnd}
@@ -69,6 +70,10 @@ pub records-within : (m : List ℕ) (w : World) (samples records : List ℕ) {nu
 records-within m w samples records {count = count} e full =
     let counted : count ≡ readOf m w samples records .count = ap (λ (o : Outcome). o .count) e in
     omega (arith, within-room m w samples records)
+
+-- there are no more records than samples: a piece of 4,096 samples leaves 1,400 at most
+pub fewer-records : (count : ℕ) {got records samples : ℕ} → 6 * count ≤ 8400 → 4096 ≤ got → records ≤ samples → records + count ≤ samples + got
+fewer-records count few full h = omega arith
 
 -- what is known of a piece before it is written
 pub piece-bounds : (m : List ℕ) (w : World) (samples records : List ℕ) {number count : ℕ} {after : World} {left : List ℕ}

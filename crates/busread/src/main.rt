@@ -6,7 +6,7 @@ ghost use mathlib.Core.Path.{_≡_};
 ghost use Prim.Native.Nat.{_+_, _-_, _*_, _≤_, min};
 ghost use lib.ListN.{length};
 ghost use Rattle.regmap.specs.Format.{countOf};
-ghost use Rattle.regmap.specs.MapTest.{mapNumber};
+ghost use Rattle.maptest.specs.MapTest.{mapNumber};
 ghost use Rattle.busread.specs.Bounds.{Within, mapEnd};
 use libc::STDIN_FILENO;
 use libc::STDOUT_FILENO;

@@ -12,11 +12,12 @@ use lib.Seq.{getD-set-other}
 use Rattle.bits.specs.Bits.{bitAt}
 use Rattle.bits.proofs.Cases.{each, and-left, and-right, or-left, or-right}
 use Rattle.regmap.specs.Format.{registerAt, plain, buffered, control}
-use Rattle.regmap.specs.MapTest.{mapNumber}
-use Rattle.regmap.proofs.Laws.{control-15}
+use Rattle.maptest.specs.MapTest.{mapNumber}
+use Rattle.maptest.proofs.Laws.{control-15}
 use Rattle.registers.specs.Banks.{Banks, Mapped, transferred}
-use Rattle.registers.specs.Write.{controlBanks, writeBanks}
-use Rattle.registers.proofs.Laws.{in-banks, getD-transfer, mapped-write}
+use Rattle.registers.proofs.Laws.{in-banks, getD-transfer}
+use Rattle.writing.specs.Write.{controlBanks, writeBanks}
+use Rattle.writing.proofs.Laws.{mapped-write}
 use Rattle.order.specs.Order.{RunByte}
 use Rattle.order.specs.Number.{isConfiguration}
 use Rattle.guarantees.specs.Book.{writeAll, clearOfConfiguration}

@@ -5,8 +5,9 @@ use mathlib.Core.Bool.{Bool, true, false, cond}
 use mathlib.Core.List.{List, [], _∷_, _++_}
 use lib.Dec.{eqb}
 use lib.ListN.{length}
-use Rattle.reader.specs.Reading.{World, worldAfter, runOf}
-use Rattle.reader.specs.Calls.{readNumber, readOf}
+use Rattle.run.specs.Reading.{World, worldAfter, runOf}
+use Rattle.refusals.specs.Numbers.{readNumber}
+use Rattle.reader.specs.Calls.{readOf}
 use Rattle.guarantees.specs.Calls.{Call, outcomeOf, isDone, afterCalls, joined}
 
 pub run-append : (m : List ℕ) (w : World) (xs ys : List ℕ) → runOf m w (xs ++ ys) ≡ runOf m (runOf m w xs) ys

@@ -8,7 +8,7 @@ use lib.Dec.{leb}
 use lib.ListN.{length, take}
 use borrow.Author.Tests.{leb-true, leb-false}
 use Rattle.registers.specs.Banks.{Banks}
-use Rattle.registers.specs.Write.{writeBanks}
+use Rattle.writing.specs.Write.{writeBanks}
 use Rattle.records.specs.BanksAfter.{banksAfter}
 use Rattle.order.specs.Order.{Order, RunByte, isRead, ascending, singleInstruction, sentBytes, runBytes}
 use Rattle.order.specs.Samples.{samplesOf}

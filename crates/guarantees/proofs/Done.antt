@@ -9,15 +9,15 @@ use lib.ListN.{length}
 use borrow.Author.Tests.{le-leb, eq-eqb}
 use Rattle.bits.proofs.Cases.{and-left, and-right}
 use Rattle.regmap.specs.Format.{countOf}
-use Rattle.regmap.specs.MapTest.{mapNumber}
+use Rattle.maptest.specs.MapTest.{mapNumber}
 use Rattle.session.specs.State.{soundSession}
 use Rattle.session.specs.Event.{eventOf}
 use Rattle.session.proofs.Laws.{sound-step}
 use Rattle.registers.specs.Banks.{Banks, Mapped}
-use Rattle.reader.specs.Reading.{World, worldAfter, runOf, recordCount, samplesGood}
-use Rattle.reader.specs.Calls.{banksFit, readNumber}
+use Rattle.run.specs.Reading.{World, worldAfter, runOf, recordCount}
+use Rattle.refusals.specs.Numbers.{samplesGood, banksFit, readNumber}
+use Rattle.refusals.proofs.Laws.{fits-mapped}
 use Rattle.records.proofs.Laws.{mapped-after}
-use Rattle.reader.proofs.Refusals.{fits-mapped}
 use Rattle.order.specs.Order.{Order, singleInstruction}
 use Rattle.order.specs.Samples.{clocked, orderBits, samplesOf}
 use Rattle.order.proofs.Laws.{admitted}

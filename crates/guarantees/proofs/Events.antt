@@ -20,7 +20,7 @@ use Rattle.session.specs.Event.{isData, bitEvent, abortEvent, eventOf}
 use Rattle.registers.specs.Banks.{Banks}
 use Rattle.records.specs.Records.{recordOf, recordsIn}
 use Rattle.records.specs.BanksAfter.{banksAfter}
-use Rattle.reader.specs.Reading.{World, worldAfter, runOf, recordsOf, recordCount}
+use Rattle.run.specs.Reading.{World, worldAfter, runOf, recordsOf, recordCount}
 
 -- an event is noted unless it is nothing
 abbrev pub noted : Event → List Event → List Event

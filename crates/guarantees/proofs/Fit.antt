@@ -14,7 +14,7 @@ use Rattle.settings.specs.declared.Settings.{Settings}
 use Rattle.settings.specs.declared.InUse.{InUse}
 use Rattle.settings.specs.Settings.{inUseOf, nextAddress, settingsAfter}
 use Rattle.settings.proofs.Laws.{next-lt}
-use Rattle.reader.specs.Reading.{World}
+use Rattle.run.specs.Reading.{World}
 use Rattle.order.specs.Order.{Order, RunByte, isRead, ascending, runFrom, sentBytes}
 use Rattle.order.specs.Number.{isConfiguration, configuresEarly}
 use Rattle.order.proofs.Laws.{admitted}

@@ -1,23 +1,24 @@
--- The starred results: a good map's length follows from its count by the map test; all the others compute.
+-- The starred results: a good map's length follows from its count by the map test, the samples of 1,000 bytes by the sender's law; all the others compute.
 use mathlib.Core.Path.{refl, ap, _∙_}
 use Prim.Native.Nat.{ℕ, _+_, _*_}
 use Rattle.bits.specs.Bits.{bitAt, merged}
 use Rattle.bits.specs.Tests.{every}
 use Rattle.regmap.specs.Format.{countOf, entryAt}
-use Rattle.regmap.specs.MapTest.{kindRule, placeRule, entryGood, entriesGood, mapNumber}
-use Rattle.regmap.proofs.Laws.{good-length, good-form}
+use Rattle.maptest.specs.MapTest.{kindRule, placeRule, entryGood, entriesGood, mapNumber}
+use Rattle.maptest.proofs.Laws.{good-length, good-form}
 use Rattle.settings.specs.Settings.{settingsAfter, controlReading}
 use Rattle.session.specs.Step.{withInstructionBit, withDataBit, stepOf}
 use Rattle.session.specs.Event.{bitEvent, abortEvent, eventOf}
 use Rattle.registers.specs.Banks.{defaultsFrom, defaultBanks, transferFrom, transferred}
-use Rattle.registers.specs.Write.{controlBanks, writeBanks, writtenOf}
 use Rattle.registers.specs.Read.{dueByte}
+use Rattle.writing.specs.Write.{controlBanks, writeBanks, writtenOf}
 use Rattle.records.specs.Records.{recordOf}
 use Rattle.records.specs.BanksAfter.{banksAfter}
-use Rattle.reader.specs.Reading.{runOf, recordsOf}
+use Rattle.run.specs.Reading.{runOf, recordsOf}
 use Rattle.order.specs.Order.{runFrom}
 use Rattle.order.specs.Samples.{highFirst, lowFirst, bitsOf, byteBits, runBits, orderBits, clocked, samplesOf}
-use Rattle.guarantees.specs.Known.{KnownResults}
+use Rattle.order.proofs.Laws.{length-samples}
+use Rattle.guarantees.specs.Known.{KnownResults, writeThousand}
 
 pub known-results : KnownResults
 unfolding bitAt merged every countOf entryAt kindRule placeRule entryGood entriesGood mapNumber
@@ -44,6 +45,6 @@ known-results = record {
   due-11 = refl;
   due-22 = refl;
   active-22 = refl;
-  thousand = refl;
-  thousand-single = refl;
+  thousand = length-samples (writeThousand 2);
+  thousand-single = length-samples (writeThousand 6);
 }

@@ -6,8 +6,9 @@ use mathlib.Core.List.{List, [], _∷_, _++_, append-nil}
 use native.Mathlib.Omega.{arith}
 use lib.ListN.{length, take, drop, replicate, length-append, length-take, length-replicate, take-append-drop}
 use borrow.Author.Tests.{le-leb}
-use Rattle.reader.specs.Reading.{World, recordCount, samplesGood}
-use Rattle.reader.specs.Calls.{readNumber, readOf}
+use Rattle.run.specs.Reading.{World, recordCount}
+use Rattle.refusals.specs.Numbers.{samplesGood, readNumber}
+use Rattle.reader.specs.Calls.{readOf}
 use Rattle.order.specs.Order.{Order}
 use Rattle.order.specs.Samples.{samplesOf}
 use Rattle.guarantees.specs.AtRest.{AtRest, Accepted}

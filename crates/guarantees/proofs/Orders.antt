@@ -19,7 +19,7 @@ use Rattle.session.specs.State.{resting, starting, inData}
 use Rattle.session.specs.Step.{stepOf}
 use Rattle.session.specs.Event.{eventOf}
 use Rattle.session.proofs.Form.{rest-form}
-use Rattle.reader.specs.Reading.{World}
+use Rattle.run.specs.Reading.{World}
 use Rattle.order.specs.Order.{Order, RunByte, isRead, ascending, singleInstruction, runFrom, sentBytes, runBytes}
 use Rattle.order.specs.Samples.{bitsOf, instructionOf, runBits, orderBits, clocked, samplesOf}
 use Rattle.order.proofs.Laws.{admitted}

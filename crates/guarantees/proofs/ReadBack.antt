@@ -15,8 +15,9 @@ use Rattle.session.specs.Step.{stepOf}
 use Rattle.registers.specs.Banks.{Banks}
 use Rattle.records.specs.Records.{recordOf}
 use Rattle.records.specs.BanksAfter.{banksAfter}
-use Rattle.reader.specs.Reading.{World, runOf, recordsOf, recordCount}
-use Rattle.reader.specs.Calls.{readNumber, readOf}
+use Rattle.run.specs.Reading.{World, runOf, recordsOf, recordCount}
+use Rattle.refusals.specs.Numbers.{readNumber}
+use Rattle.reader.specs.Calls.{readOf}
 use Rattle.order.specs.Order.{Order, RunByte, isRead, singleInstruction, runBytes}
 use Rattle.order.specs.Samples.{clocked, orderBits, samplesOf}
 use Rattle.guarantees.specs.AtRest.{AtRest, Accepted}

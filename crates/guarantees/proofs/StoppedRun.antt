@@ -12,7 +12,7 @@ use Rattle.session.specs.Step.{csbOf, csbRises, takesBit}
 use Rattle.session.specs.Event.{abortEvent, eventOf}
 use Rattle.registers.specs.Banks.{Banks}
 use Rattle.records.specs.BanksAfter.{banksAfter}
-use Rattle.reader.specs.Reading.{World, runOf}
+use Rattle.run.specs.Reading.{World, runOf}
 use Rattle.order.specs.Samples.{samplesOf}
 use Rattle.guarantees.specs.Book.{bookOf}
 use Rattle.guarantees.specs.StoppedRun.{StoppedRun}

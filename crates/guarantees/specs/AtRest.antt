@@ -4,13 +4,13 @@ use mathlib.Core.Path.{_≡_}
 use mathlib.Core.Bool.{true}
 use mathlib.Core.List.{List}
 use lib.Pow.{areBytes}
-use Rattle.regmap.specs.MapTest.{mapNumber}
+use Rattle.maptest.specs.MapTest.{mapNumber}
 use Rattle.settings.specs.declared.Settings.{Settings}
 use Rattle.session.specs.declared.Phase.the-variants.{Rest}
 use Rattle.session.specs.declared.Session.{Session}
 use Rattle.session.specs.State.{soundSession}
-use Rattle.reader.specs.Reading.{World}
-use Rattle.reader.specs.Calls.{banksFit}
+use Rattle.run.specs.Reading.{World}
+use Rattle.refusals.specs.Numbers.{banksFit}
 use Rattle.order.specs.Order.{Order, lsbFirst, ascending, singleInstruction}
 use Rattle.order.specs.Number.{sendNumber}
 

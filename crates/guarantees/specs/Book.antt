@@ -4,7 +4,7 @@ use mathlib.Core.Bool.{Bool, true, cond, not, _&&_}
 use mathlib.Core.List.{List, [], _∷_}
 use lib.ListN.{length, take}
 use Rattle.registers.specs.Banks.{Banks}
-use Rattle.registers.specs.Write.{writeBanks}
+use Rattle.writing.specs.Write.{writeBanks}
 use Rattle.order.specs.Order.{Order, RunByte, singleInstruction, runBytes}
 use Rattle.order.specs.Number.{isConfiguration}
 

@@ -4,7 +4,7 @@ use Prim.Native.Nat.{ℕ}
 use mathlib.Core.Bool.{Bool, cond}
 use mathlib.Core.List.{List, [], _∷_, _++_}
 use lib.Dec.{eqb}
-use Rattle.reader.specs.Reading.{World}
+use Rattle.run.specs.Reading.{World}
 use Rattle.reader.specs.Calls.{Outcome, readOf}
 
 -- one call: its samples, and the record buffer lent to it

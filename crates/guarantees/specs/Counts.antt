@@ -5,7 +5,7 @@ use mathlib.Core.Bool.{false, cond}
 use mathlib.Core.List.{List}
 use lib.ListN.{length, take}
 use lib.Dec.{leb}
-use Rattle.reader.specs.Reading.{World, runOf}
+use Rattle.run.specs.Reading.{World, runOf}
 use Rattle.order.specs.Order.{Order, isRead, singleInstruction, runBytes}
 use Rattle.order.specs.Samples.{samplesOf}
 use Rattle.guarantees.specs.AtRest.{AtRest, Accepted}

@@ -9,7 +9,7 @@ use Rattle.bits.specs.Bits.{bitAt}
 use Rattle.regmap.specs.declared.Entry.{Entry}
 use Rattle.regmap.specs.Format.{registerAt, buffered}
 use Rattle.registers.specs.Banks.{Banks}
-use Rattle.reader.specs.Reading.{World, recordCount}
+use Rattle.run.specs.Reading.{World, recordCount}
 use Rattle.order.specs.Order.{Order, RunByte, runBytes}
 use Rattle.guarantees.specs.Calls.{Call, isDone, afterCalls, joined}
 use Rattle.guarantees.specs.Book.{wholeBytes, writeAll}

@@ -6,13 +6,13 @@ use mathlib.Core.List.{List, [], _∷_, _++_}
 use lib.ListN.{length, replicate, getD}
 use Rattle.bits.specs.Bits.{merged}
 use Rattle.regmap.specs.Format.{lengthOf, countOf}
-use Rattle.regmap.specs.MapTest.{mapNumber}
+use Rattle.maptest.specs.MapTest.{mapNumber}
 use Rattle.settings.specs.Settings.{nextAddress}
 use Rattle.session.specs.declared.Session.{Session}
-use Rattle.session.specs.State.{openedSession}
+use Rattle.soundness.specs.Opened.{openedSession}
 use Rattle.registers.specs.Banks.{defaultBanks}
 use Rattle.registers.specs.Read.{dueByte}
-use Rattle.reader.specs.Reading.{World, runOf, recordsOf}
+use Rattle.run.specs.Reading.{World, runOf, recordsOf}
 use Rattle.order.specs.Order.{Order}
 use Rattle.order.specs.Samples.{samplesOf, orderBits}
 use Rattle.guarantees.specs.StoppedRun.{stoppedSamples}

@@ -12,7 +12,7 @@ use Rattle.session.specs.State.{resting}
 use Rattle.registers.specs.Banks.{Banks}
 use Rattle.records.specs.Records.{recordOf}
 use Rattle.records.specs.BanksAfter.{banksAfter}
-use Rattle.reader.specs.Reading.{World}
+use Rattle.run.specs.Reading.{World}
 use Rattle.reader.specs.Calls.{Outcome, readOf}
 use Rattle.order.specs.Order.{Order, RunByte, isRead, runBytes}
 use Rattle.order.specs.Samples.{samplesOf}

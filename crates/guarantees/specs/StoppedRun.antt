@@ -5,7 +5,7 @@ use mathlib.Core.Bool.{true, false}
 use mathlib.Core.List.{List, [], _∷_, _++_}
 use lib.ListN.{take}
 use Rattle.session.specs.Step.{csbOf}
-use Rattle.reader.specs.Reading.{World}
+use Rattle.run.specs.Reading.{World}
 use Rattle.order.specs.Order.{Order, isRead, runBytes}
 use Rattle.order.specs.Samples.{samplesOf}
 use Rattle.guarantees.specs.AtRest.{AtRest, Accepted}

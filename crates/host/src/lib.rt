@@ -1,9 +1,9 @@
 // What the bench host, a C program, calls: the map test and the sender, on numbers and byte slices.
 ghost use mathlib.Core.Path.{_≡_};
-ghost use Rattle.regmap.specs.MapTest.{mapNumber};
+ghost use Rattle.maptest.specs.MapTest.{mapNumber};
 ghost use Rattle.order.specs.Order.{order};
 ghost use Rattle.sender.specs.Calls.{sending, sendOf};
-use regmap::map_test;
+use maptest::map_test;
 use sender::send;
 
 // Whether a map may be used: 0, or 2 where its form is wrong, or 3 where an entry breaks a rule.

@@ -8,26 +8,23 @@ ghost use Rattle.order.specs.Number.{configuresEarly, countTests, sendNu
 use bits::bit_at;
 use settings::next_address;
 
-// How many bytes of data an order comes with.
-fn data_due(read: bool, count: u64) -> u64
-    ensures { λ r. ⌜ r ≡ cond read 0 count ⌝ }
-{
-    if read { 0 } else { count }
-}
-
 // Whether the count is 1 to 1,000, and the data as long as it says.
 fn count_fits(direction: u64, count: u64, data: &[u8]) -> bool
     ensures { λ r. ⌜ r ≡ every (countTests (order direction 0 0 count (now («data» .entry)))) ⌝ }
 {
     let length = data.len() as u64;
-    (1 <= count) & (count <= 1000) & (length == data_due(direction == 1, count))
+    let due = if direction == 1 { 0 } else { count };
+    (1 <= count) & (count <= 1000) & (length == due)
 }
 
-// Whether a run writes 0x0000 or 0x0001 anywhere but last.
-fn configures_early(ascending: bool, start: u16, data: &[u8]) -> bool
+// Whether a write in single instruction has 0x0000 or 0x0001 anywhere but last.
+fn configures_early(single_write: bool, ascending: bool, start: u16, data: &[u8]) -> bool
     requires { ⌜ start < 0x8000 ⌝ }
-    ensures { λ r. ⌜ r ≡ configuresEarly (runFrom ascending start (now («data» .entry))) ⌝ }
+    ensures { λ r. ⌜ r ≡ («single_write» && configuresEarly (runFrom ascending start (now («data» .entry)))) ⌝ }
 {
+    if !single_write {
+        return false;
+    }
     let mut address = start;
     let mut i: usize = 0;
     while i + 1 < data.len() {
@@ -36,17 +33,6 @@ fn configures_early(ascending: bool, start: u16, data: &[u8]) -> bool
         }
         address = next_address(ascending, address);
         i += 1;
-    }
-    false
-}
-
-// Whether a write in single instruction configures early.
-fn single_configures_early(single_write: bool, ascending: bool, start: u16, data: &[u8]) -> bool
-    requires { ⌜ start < 0x8000 ⌝ }
-    ensures { λ r. ⌜ r ≡ («single_write» && configuresEarly (runFrom ascending start (now («data» .entry)))) ⌝ }
-{
-    if single_write {
-        return configures_early(ascending, start, data);
     }
     false
 }
@@ -85,7 +71,7 @@ pub fn number_of(
     }
     let s = settings as u8;
     let single = bit_at(s, 2);
-    if single_configures_early(single & (direction != 1), bit_at(s, 1), start as u16, data) {
+    if configures_early(single & (direction != 1), bit_at(s, 1), start as u16, data) {
         return 10;
     }
     if room < sample_count(single, count as usize) {

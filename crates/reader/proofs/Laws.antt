@@ -1,140 +1,68 @@
--- Reading samples one at a time: what is done, with the definition of what is left, is the whole.
-use mathlib.Core.Path.{_≡_, refl, sym, _∙_, ap, subst}
-use mathlib.Core.Bool.{true}
-use mathlib.Core.List.{List, [], _∷_, _++_}
-use Prim.Native.Nat.{ℕ, _+_, _*_, _<_, _≤_}
+-- What a call leaves, by its number.
+use mathlib.Core.Path.{_≡_, sym, _∙_, ap}
+use mathlib.Core.Bool.{Bool, true, false}
+use mathlib.Core.Logic.{_≢_}
+use mathlib.Core.List.{List}
+use Prim.Native.Nat.{ℕ, _*_, _/_}
 use native.Mathlib.Omega.{arith}
-use native.Mathlib.Numerals.{add-one}
-use native.Mathlib.Nat.{zero-add, add-zero}
-use lib.ListN.{length, getD, drop, drop-of-length-le, length-append}
-use lib.Seq.{drop-cons, sets, sets-eq, length-sets}
-use Rattle.bits.proofs.Buffer.{sets-append}
-use Rattle.settings.specs.declared.Settings.{Settings}
+use lib.Dec.{eqb, leb}
+use lib.ListN.{length}
+use borrow.Author.Tests.{eq-eqb, ne-eqb, leb-true}
+use Rattle.bits.proofs.Cases.{yes, no, and-left}
+use Rattle.maptest.specs.MapTest.{mapNumber}
 use Rattle.session.specs.declared.Session.{Session}
-use Rattle.session.specs.declared.Event.{Event}
-use Rattle.session.specs.State.{soundSession}
-use Rattle.session.specs.Step.{stepOf}
-use Rattle.session.specs.Event.{eventOf}
-use Rattle.session.proofs.Laws.{sound-step}
-use Rattle.trace.specs.Path.{Quiet, still, more, Next, none, one}
-use Rattle.trace.proofs.Paths.{settings-quiet}
-use Rattle.registers.specs.Banks.{Banks, banks, Mapped}
-use Rattle.records.specs.BanksAfter.{banksAfter}
-use Rattle.records.specs.Records.{recordOf}
-use Rattle.records.specs.Contracts.{Taking, Taken}
-use Rattle.records.proofs.Laws.{mapped-after, six}
-use Rattle.reader.specs.Reading.{World, world, worldAfter, runOf, recordsOf, recordCount}
-use Rattle.reader.specs.Contracts.{Ready, Done}
+use Rattle.soundness.specs.Opened.{openedSession}
+use Rattle.registers.specs.Banks.{Banks, defaultBanks}
+use Rattle.run.specs.Reading.{World, recordCount}
+use Rattle.run.specs.Contracts.{Ready, Done}
+use Rattle.run.proofs.Laws.{records-size}
+use Rattle.refusals.specs.Numbers.{openNumber, samplesGood, readNumber}
+use Rattle.refusals.proofs.Laws.{opens, fits-mapped, read-tests}
+use Rattle.reader.specs.Calls.{Opening, opening, openOf, outcome, readOf}
 
--- the record of sample x
-abbrev recordAt : List ℕ → World → ℕ → List ℕ
-recordAt m w x = recordOf m (w .banks) (w .session .settings) (eventOf (w .session) x)
+-- a map that opening does not refuse is good
+pub opened-good : (m : List ℕ) (b : Banks) {number : ℕ} {s : Session} {after : Banks} → opening number s after ≡ openOf m b → number ≡ 0
+    → mapNumber m ≡ 0
+unfolding openOf
+opened-good m b e z = opens m b (sym (ap (λ (o : Opening). o .number) e) ∙ z) .0
 
--- i samples are read from world w₀, and the records of n bytes put: w is reached, and the record buffer is new
-pub record Reading (m xs : List ℕ) (w₀ w : World) (old new : List ℕ) (n i : ℕ) : Type 0 where
-  pub within : i ≤ length xs
-  pub sound : soundSession (w .session) ≡ true
-  pub mapped : Mapped m (w .banks)
-  pub same : length new ≡ length old
-  pub size : n + length (recordsOf m w (drop i xs)) ≡ length (recordsOf m w₀ xs)
-  pub room : length (recordsOf m w₀ xs) ≤ length old
-  pub rest : sets new n (recordsOf m w (drop i xs)) ≡ sets old 0 (recordsOf m w₀ xs)
-  pub after : runOf m w (drop i xs) ≡ runOf m w₀ xs
+module _ (m : List ℕ) (b : Banks) (n : ℕ) (given : n ≡ openNumber m b) (s : Session) (fresh : s ≡ openedSession) where
+  pub open-refused : n ≢ 0 → opening n s b ≡ openOf m b
+  unfolding openOf
+  open-refused z =
+      let t : eqb (openNumber m b) 0 ≡ false = ne-eqb (openNumber m b) 0 (λ q. z (given ∙ q)) in
+      rw t (rw (given, fresh))
 
-next-records : (m xs : List ℕ) (w : World) (i : ℕ) → i < length xs
-    → recordsOf m w (drop i xs) ≡ recordAt m w (getD xs i 0) ++ recordsOf m (worldAfter m w (getD xs i 0)) (drop (i + 1) xs)
-unfolding recordsOf
-next-records m xs w i h = rw (add-one, drop-cons xs i 0)
+  pub open-done : n ≡ 0 → (after : Banks) → after ≡ defaultBanks m → opening n s after ≡ openOf m b
+  unfolding openOf
+  open-done z after e =
+      let t : eqb (openNumber m b) 0 ≡ true = eq-eqb (openNumber m b) 0 (sym given ∙ z) in
+      rw t (rw (given, fresh, e))
 
-next-run : (m xs : List ℕ) (w : World) (i : ℕ) → i < length xs
-    → runOf m w (drop i xs) ≡ runOf m (worldAfter m w (getD xs i 0)) (drop (i + 1) xs)
-unfolding runOf
-next-run m xs w i h = rw (add-one, drop-cons xs i 0)
-
-pub begun : (m xs : List ℕ) (w : World) (old : List ℕ) → Ready true m w xs old → Reading m xs w w old old 0 0
-begun m xs w old r = record {
-  within = omega arith;
-  sound = r .sound;
-  mapped = r .mapped refl;
-  same = refl;
-  size = omega arith;
-  room = r .room refl;
-  rest = refl;
-  after = refl;
-}
-
-module _ {m xs : List ℕ} {w₀ w : World} {old new : List ℕ} {n i : ℕ} (h : i < length xs) (k : Reading m xs w₀ w old new n i) where
-  -- the next record has room
-  pub taking : Taking m (w .banks) (w .session .settings) (eventOf (w .session) (getD xs i 0)) new n
-  taking = record { mapped = k .mapped; room = omega (arith, simp length-append at (ap length (next-records m xs w i h)), k) }
-
-  pub turned : Reading m xs w₀ (worldAfter m w (getD xs i 0)) old (sets new n (recordAt m w (getD xs i 0))) (n + length (recordAt m w (getD xs i 0))) (i + 1)
-  turned = record {
-    within = omega arith;
-    sound = sound-step (w .session) (getD xs i 0) (k .sound);
-    mapped = mapped-after m (w .banks) (eventOf (w .session) (getD xs i 0)) (k .mapped);
-    same = length-sets new n (recordAt m w (getD xs i 0)) ∙ k .same;
-    size = omega (arith, simp length-append at (ap length (next-records m xs w i h)), k);
-    room = k .room;
-    rest = sym (sets-append (recordAt m w (getD xs i 0)) _ new n) ∙ (rw (next-records m xs w i h) at (k .rest));
-    after = sym (next-run m xs w i h) ∙ k .after;
-  }
-
-pub ended : {m xs : List ℕ} {w₀ w : World} {old new : List ℕ} {n i : ℕ} → length xs ≤ i → Reading m xs w₀ w old new n i → Done m w₀ xs old w n new
-unfolding recordsOf runOf
-ended {m} {xs} {w₀} {w} {old} {new} {n} {i} h k =
-    let e : recordsOf m w (drop i xs) ≡ [] = rw (drop-of-length-le xs h) in
-    let a : runOf m w (drop i xs) ≡ w = rw (drop-of-length-le xs h) in
+-- where the number is 0, nothing can be refused any more
+pub read-ready : {put : Bool} (m : List ℕ) (w : World) (xs records : List ℕ) (n : ℕ) → n ≡ readNumber m w xs (length records) → n ≡ 0
+    → Ready put m w xs records
+read-ready m w xs records n e z =
+    let t = read-tests m w xs (length records) (sym e ∙ z) in
     record {
-      world-after = sym a ∙ k .after;
-      size-is = omega (arith, ap length e, k);
-      records-after = (rw e at (k .rest)) ∙ sets-eq (recordsOf m w₀ xs) old 0 (omega (arith, k)) ∙ rw zero-add;
+      sound = t .sound;
+      few = leb-true (length xs) 65536 (and-left (leb (length xs) 65536) (samplesGood xs) (t .samples));
+      mapped = λ p. fits-mapped m (w .banks) (t .good-map) (t .fits);
+      room = λ p. omega (arith, records-size m xs w, leb-true (6 * recordCount (w .session) xs) (length records) (t .enough));
     }
 
--- the same turn, by what the calls in it give
-again-one : {m xs : List ℕ} {w₀ : World} {s : Session} {act buf old new : List ℕ} {n i : ℕ} → i < length xs
-    → Reading m xs w₀ (world s act buf) old new n i
-    → (e : Event) (act′ buf′ new′ : List ℕ) (n′ : ℕ) (s′ : Session) → e ≡ eventOf s (getD xs i 0)
-    → Taken m (banks act buf) (s .settings) e new n (banks act′ buf′) new′ n′ → s′ ≡ stepOf s (getD xs i 0)
-    → Reading m xs w₀ (world s′ act′ buf′) old new′ n′ (i + 1)
-again-one {m} {xs} {w₀} {s} {act} {buf} {old} {new} {n} {i} h k e act′ buf′ new′ n′ s′ ee t es =
-    let eb : banks act′ buf′ ≡ banksAfter m (banks act buf) (eventOf s (getD xs i 0)) = t .banks-after ∙ rw ee in
-    let ew : world s′ act′ buf′ ≡ worldAfter m (world s act buf) (getD xs i 0) = cc in
-    let en : n′ ≡ n + length (recordAt m (world s act buf) (getD xs i 0)) = t .next-place ∙ rw ee in
-    let er : new′ ≡ sets new n (recordAt m (world s act buf) (getD xs i 0)) = t .records-after ∙ rw ee in
-    rw (ew, en, er) (turned h k)
+-- a call that is refused leaves all as it was
+pub read-refused : (m : List ℕ) (w : World) (xs records : List ℕ) (n : ℕ) → n ≡ readNumber m w xs (length records) → n ≢ 0
+    → outcome n w 0 records ≡ readOf m w xs records
+unfolding readOf
+read-refused m w xs records n e z =
+    no _ (ne-eqb (readNumber m w xs (length records)) 0 (λ q. z (e ∙ q))) (ap (λ (k : ℕ). outcome k w 0 records) e)
 
--- samples that give no event
-still-reading : {m xs : List ℕ} {w₀ : World} {s t : Session} {act buf old new : List ℕ} {n i j : ℕ} → Reading m xs w₀ (world s act buf) old new n i
-    → Quiet xs s i t j → Reading m xs w₀ (world t act buf) old new n j
-unfolding banksAfter recordOf
-still-reading k still = k
-still-reading {n = n} k (more q h e) = rw (e, add-zero n) at (turned h (still-reading k q))
-
--- what the next event asks
-pub taking-next : {m xs : List ℕ} {w₀ : World} {s t : Session} {act buf old new : List ℕ} {n i j : ℕ} {e : Event}
-    → Reading m xs w₀ (world s act buf) old new n i → Next xs s i e t j → Taking m (banks act buf) (s .settings) e new n
-unfolding recordOf
-taking-next k (none q) = record { mapped = k .mapped; room = omega (arith, k) }
-taking-next {m} {act = act} {buf} {new = new} {n} {e = e} k (one q h) =
-    subst (λ (t : Settings). Taking m (banks act buf) t e new n) (settings-quiet q) (taking h (still-reading k q))
-
--- samples up to an event, by what the calls in a turn give
-pub again : {m xs : List ℕ} {w₀ : World} {s t : Session} {act buf old new : List ℕ} {n i j : ℕ} {e : Event}
-    → Reading m xs w₀ (world s act buf) old new n i → Next xs s i e t j → (act′ buf′ new′ : List ℕ) (n′ : ℕ)
-    → Taken m (banks act buf) (s .settings) e new n (banks act′ buf′) new′ n′ → Reading m xs w₀ (world t act′ buf′) old new′ n′ j
-unfolding banksAfter recordOf
-again {m} {t = t} {act} {buf} {new = new} {n} k (none q) act′ buf′ new′ n′ a =
-    let ew : world t act′ buf′ ≡ world t act buf = ap (λ (b : Banks). record { session = t; banks = b }) (a .banks-after) in
-    let en : n′ ≡ n = a .next-place ∙ add-zero n in
-    rw (ew, en, a .records-after) (still-reading k q)
-again {m} {act = act} {buf} {new = new} {n} {e = e} k (one q h) act′ buf′ new′ n′ a =
-    again-one h (still-reading k q) e act′ buf′ new′ n′ _ refl
-    (subst (λ (t : Settings). Taken m (banks act buf) t e new n (banks act′ buf′) new′ n′) (sym (settings-quiet q)) a) refl
-
--- six bytes a record
-pub records-size : (m xs : List ℕ) (w : World) → length (recordsOf m w xs) ≡ 6 * recordCount (w .session) xs
-unfolding recordsOf recordCount
-records-size m [] w = refl
-records-size m (x ∷ xs) w =
-    rw length-append (omega (arith, six m (w .banks) (w .session .settings) (eventOf (w .session) x), records-size m xs (worldAfter m w x)))
+-- a call that is done leaves what the pass over the samples gave
+pub read-done : (m : List ℕ) (w : World) (xs records : List ℕ) (n : ℕ) → n ≡ readNumber m w xs (length records) → n ≡ 0
+    → (after : World) (size : ℕ) (new : List ℕ) → Done m w xs records after size new
+    → outcome 0 after (size / 6) new ≡ readOf m w xs records
+unfolding readOf
+read-done m w xs records n e z after size new d =
+    let count : size / 6 ≡ recordCount (w .session) xs = omega (arith, d .size-is, records-size m xs w) in
+    yes _ (eq-eqb (readNumber m w xs (length records)) 0 (sym e ∙ z)) (rw (d .world-after, d .records-after, count))

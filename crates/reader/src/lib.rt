@@ -3,19 +3,17 @@
 // Two public calls, `open` and `read`, with no `requires`: anything may be handed in, and what cannot be read is refused with
 // document 01's number before anything is changed.
 ghost use mathlib.Core.Path.{_≡_};
-ghost use Rattle.regmap.specs.MapTest.{mapNumber};
+ghost use Rattle.maptest.specs.MapTest.{mapNumber};
 ghost use Rattle.registers.specs.Banks.{banks};
-ghost use Rattle.reader.specs.Reading.{world};
-ghost use Rattle.reader.specs.Calls.{openNumber, opening, openOf, readNumber, outcome, readOf};
-
-mod room;
-mod run;
-
-use regmap::map_test;
-use room::room_suffices;
-use room::samples_good;
+ghost use Rattle.run.specs.Reading.{world};
+ghost use Rattle.reader.specs.Calls.{opening, openOf, outcome, readOf};
+use maptest::map_test;
+use refusals::open_refusal;
+use refusals::read_refusal;
 use run::run_samples;
 use session::Session;
+use soundness::opened;
+use soundness::sound;
 
 // What opening answers: the number, and the opened session.
 pub struct Opened {
@@ -30,27 +28,12 @@ pub struct Answer {
     pub count: usize,
 }
 
-// The number of opening, by that of the map test: 0, or the refusal.
-fn open_refusal(number: u8, map: &[u8], active: &[u8], buffer: &[u8]) -> u8
-    requires { ⌜ number ≡ mapNumber (now map) ⌝ }
-    ensures { λ r. ⌜ r ≡ openNumber (now (map .entry)) (banks (now (active .entry)) (now (buffer .entry))) ⌝ }
-{
-    if number != 0 {
-        return number;
-    }
-    let count = regmap::count(map);
-    if (active.len() == count) & (buffer.len() == count) {
-        return 0;
-    }
-    4
-}
-
 // Puts each default in both banks. The opened session is returned always.
 pub fn open(map: &[u8], active: &mut [u8], buffer: &mut [u8]) -> Opened
     ensures { λ r. ⌜ opening (r .number) (r .session) (banks (now (active .exit)) (now (buffer .exit))) ≡ openOf (now (map .entry)) (banks (now (active .entry)) (now (buffer .entry))) ⌝ }
 {
     let number = open_refusal(map_test(map), map, active, buffer);
-    let session = session::opened();
+    let session = opened();
     if number == 0 {
         registers::reset(map, active, buffer);
     }
@@ -58,37 +41,6 @@ pub fn open(map: &[u8], active: &mut [u8], buffer: &mut [u8]) -> Opened
         number: number,
         session: session,
     }
-}
-
-// The number of reading on a good map: 0, or the refusal.
-fn read_refusal(
-    map: &[u8],
-    session: Session,
-    active: &[u8],
-    buffer: &[u8],
-    samples: &[u8],
-    room: usize,
-) -> u8
-    requires { ⌜ mapNumber (now map) ≡ 0 ⌝ }
-    ensures { λ r. ⌜ r ≡ readNumber (now (map .entry)) (world session (now (active .entry)) (now (buffer .entry))) (now (samples .entry)) room ⌝ }
-{
-    if !session.sound() {
-        return 1;
-    }
-    let opens = open_refusal(0, map, active, buffer);
-    if opens != 0 {
-        return opens;
-    }
-    if 65536 < samples.len() {
-        return 5;
-    }
-    if !samples_good(samples) {
-        return 5;
-    }
-    if room_suffices(session, samples, room) {
-        return 0;
-    }
-    6
 }
 
 // Reads samples on a map that is known to be good, as opening has shown it. This is no public call: it is for a program that
@@ -136,7 +88,7 @@ pub fn read(
     if refused == 0 {
         return read_tested(map, session, active, buffer, samples, records);
     }
-    if session.sound() {
+    if sound(session) {
         return Answer {
             number: refused,
             session: session,

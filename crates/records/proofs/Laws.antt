@@ -8,7 +8,7 @@ use Rattle.settings.specs.declared.Settings.{Settings}
 use Rattle.session.specs.declared.Event.{Event}
 use Rattle.session.specs.declared.Event.the-variants.{Nothing, Whole, Aborted}
 use Rattle.registers.specs.Banks.{Banks, Mapped}
-use Rattle.registers.proofs.Laws.{mapped-write}
+use Rattle.writing.proofs.Laws.{mapped-write}
 use Rattle.records.specs.BanksAfter.{banksAfter}
 use Rattle.records.specs.Records.{recordOf, recordsIn}
 use Rattle.records.specs.Contracts.{Taken}

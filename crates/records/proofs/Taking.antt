@@ -10,10 +10,10 @@ use lib.Seq.{sets}
 use Rattle.settings.specs.declared.Settings.{Settings}
 use Rattle.session.specs.declared.Event.{Event}
 use Rattle.session.specs.declared.Event.the-variants.{Nothing, Whole, Aborted}
-use Rattle.registers.specs.declared.Written.{Written}
 use Rattle.registers.specs.Banks.{Banks}
-use Rattle.registers.specs.Write.{Wrote}
 use Rattle.registers.specs.Read.{dueByte}
+use Rattle.writing.specs.declared.Written.{Written}
+use Rattle.writing.specs.Write.{Wrote}
 use Rattle.records.specs.Records.{recordOf, recordsIn, writeRecord, readRecord, abortRecord}
 use Rattle.records.specs.BanksAfter.{banksAfter}
 use Rattle.records.specs.Contracts.{Taking, Taken}

@@ -5,7 +5,7 @@ use mathlib.Core.List.{List}
 use Rattle.session.specs.declared.Event.{Event}
 use Rattle.session.specs.declared.Event.the-variants.{Nothing, Whole, Aborted}
 use Rattle.registers.specs.Banks.{Banks}
-use Rattle.registers.specs.Write.{writeBanks}
+use Rattle.writing.specs.Write.{writeBanks}
 
 -- Document 01, "What a whole byte does": a whole byte is written or read; a broken one does nothing.
 unfoldable pub banksAfter : List ℕ → Banks → Event → Banks

@@ -6,10 +6,10 @@ use lib.Dec.{eqb}
 use Rattle.settings.specs.declared.Settings.{Settings}
 use Rattle.session.specs.declared.Event.{Event}
 use Rattle.session.specs.declared.Event.the-variants.{Nothing, Whole, Aborted}
-use Rattle.registers.specs.declared.Written.{Written}
 use Rattle.registers.specs.Banks.{Banks}
-use Rattle.registers.specs.Write.{writtenOf}
 use Rattle.registers.specs.Read.{dueByte}
+use Rattle.writing.specs.declared.Written.{Written}
+use Rattle.writing.specs.Write.{writtenOf}
 
 -- kind, address (big-endian), and three bytes by kind
 abbrev pub recordBytes : ℕ → ℕ → ℕ → ℕ → ℕ → List ℕ

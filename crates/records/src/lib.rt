@@ -4,10 +4,11 @@ ghost use Prim.Native.Nat.{_+_, _≤_};
 ghost use lib.ListN.{length};
 ghost use lib.Seq.{sets};
 ghost use Rattle.registers.specs.Banks.{banks};
-ghost use Rattle.records.specs.Records.{recordsIn, recordBytes, readRecord, abortRecord};
+ghost use Rattle.records.specs.Records.{recordsIn, recordBytes, writeRecord, readRecord, abortRecord};
 ghost use Rattle.records.specs.Contracts.{Taking, Taken};
 use session::Event;
 use settings::Settings;
+use writing::Written;
 
 // How many bytes a record has.
 pub const RECORD: usize = 6;
@@ -56,6 +57,22 @@ fn put_record(
     records[at + 3] = third;
     records[at + 4] = fourth;
     records[at + 5] = fifth;
+}
+
+// Puts the record of a write at a place: the byte written, and what the write answered.
+fn put_write(records: &mut [u8], at: usize, address: u16, byte: u8, written: Written)
+    requires { ⌜ at + 6 ≤ length (now records) ⌝ }
+    ensures { λ r. ⌜ now (records .exit) ≡ sets (now (records .entry)) at (writeRecord address byte written) ⌝ }
+{
+    put_record(
+        records,
+        at,
+        WRITE,
+        address,
+        byte,
+        written.byte,
+        written.effect,
+    );
 }
 
 // Puts the record of a read at a place: the due byte, the byte on the line, and whether they differ.
@@ -107,16 +124,8 @@ pub fn take_event(
                 put_read(records, at, address, due, byte);
                 return at + RECORD;
             }
-            let written = registers::write(map, active, buffer, settings, address, byte);
-            put_record(
-                records,
-                at,
-                WRITE,
-                address,
-                byte,
-                written.byte,
-                written.effect,
-            );
+            let written = writing::write(map, active, buffer, settings, address, byte);
+            put_write(records, at, address, byte, written);
             at + RECORD
         }
         Event::Aborted {

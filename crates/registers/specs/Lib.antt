@@ -1,3 +1,2 @@
 pub mod Banks
-pub mod Write
 pub mod Read

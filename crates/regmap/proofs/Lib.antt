@@ -1,5 +1,3 @@
-mod Entries
-mod Places
 mod Giving
 mod Readers
 pub mod Laws

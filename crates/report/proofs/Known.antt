@@ -1,17 +1,13 @@
--- Document 01, "The bench program": the case that it prints, line by line; and decimal at both ends of 64 bits.
+-- Document 01, "The bench program": the first and last line of the case that it prints; a refusal; and decimal at both ends of 64 bits.
 use mathlib.Core.Path.{_≡_, refl}
-use mathlib.Core.List.{[], _∷_}
 use Prim.Native.Nat.{_-_, _^_}
-use Rattle.report.specs.Numbers.{bytesOf, decimalIn, decimalOf}
-use Rattle.report.specs.Text.{lineOf, mapLine, countLine, refusedLine}
+use Rattle.lines.specs.Text.{bytesOf}
+use Rattle.report.specs.Numbers.{decimalIn, decimalOf}
+use Rattle.report.specs.Text.{mapLine, countLine, refusedLine}
 
 pub first-line : mapLine 16 ≡ bytesOf "map 16\n"
 unfolding mapLine decimalIn
 first-line = refl
-
-pub write-line : lineOf (1 ∷ 0x00 ∷ 0x0A ∷ 0x3C ∷ 0x3C ∷ 1 ∷ []) ≡ bytesOf "W 000A 3C 3C 1\n"
-unfolding lineOf
-write-line = refl
 
 pub last-line : countLine 1 51 ≡ bytesOf "records 1 samples 51\n"
 unfolding countLine decimalIn

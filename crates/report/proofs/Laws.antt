@@ -1,31 +1,23 @@
--- A table against its rule, texts one after another, the lines of records, and the digits of a number.
+-- Texts one after another, the lines of records, and the digits of a number.
 use mathlib.Core.Path.{_≡_, refl, sym, ap, subst, _∙_}
 use mathlib.Core.List.{List, [], _∷_, _++_, append-assoc}
 use Prim.Native.Nat.{ℕ, zero, suc, _+_, _-_, _*_, _/_, _%_, _^_, _<_, _≤_, min}
 use native.Mathlib.Omega.{arith}
 use native.Mathlib.Numerals.{unary-clauses, sub-one}
-use native.Mathlib.Nat.{add-zero, add-suc, suc-add, pow-suc, one-le-pow, pow-le-pow-right, lt-of-not-le}
-use lib.ListN.{length, getD, take, drop, set, length-append, length-drop}
+use native.Mathlib.Nat.{pow-suc, one-le-pow, pow-le-pow-right, lt-of-not-le}
+use lib.ListN.{length, take, drop, set, length-append, length-drop}
 use lib.Seq.{sets, length-sets, length-take-le, take-all, drop-drop}
 use lib.Dec.{eqb}
 use borrow.Author.Tests.{eq-eqb, ne-eqb, lt-ltb}
 use Rattle.io.specs.Digits.{digits, glyph, Fewest}
 use Rattle.bits.proofs.Buffer.{sets-append, sets-filled}
 use Rattle.bits.proofs.Cases.{each}
-use Rattle.report.specs.Numbers.{bytesOf, digitOf, decimalIn, decimalOf}
-use Rattle.report.specs.Text.{lineOf, linesOf, countLine}
+use Rattle.lines.specs.Text.{bytesOf, digitOf}
+use Rattle.lines.specs.Line.{lineOf}
+use Rattle.lines.proofs.Laws.{line-length}
+use Rattle.report.specs.Numbers.{decimalIn, decimalOf}
+use Rattle.report.specs.Text.{linesOf, countLine}
 use Rattle.report.specs.Put.{Placed, Printed, Listed}
-
--- a rule at k places, from i on
-abbrev pub tabled : (ℕ → ℕ) → ℕ → ℕ → List ℕ
-tabled f zero i = []
-tabled f (suc k) i = f i ∷ tabled f k (suc i)
-
--- a table that computes to its rule has it at each entry
-pub entry-tabled : (f : ℕ → ℕ) (k i d : ℕ) → d < k → getD (tabled f k i) d 0 ≡ f (i + d)
-entry-tabled f zero i d h = absurd (omega arith)
-entry-tabled f (suc k) i zero h = rw add-zero
-entry-tabled f (suc k) i (suc d) h = rw (add-suc, ← suc-add) (entry-tabled f k (suc i) d (omega arith))
 
 -- one text after another
 pub placed-next : {a b : List ℕ} {at : ℕ} {old mid new : List ℕ} {i j : ℕ}
@@ -66,10 +58,6 @@ placed-printed {line} {old} {new} {n} h p = record {
 -- a slice from a place on is the rest of its list
 pub from-on : (l : List ℕ) (i : ℕ) → take (length l - i) (drop i l) ≡ drop i l
 from-on l i = take-all (length l - i) (drop i l) (omega (arith, length-drop i l))
-
-pub line-length : (r : List ℕ) → length (lineOf r) ≡ 15
-unfolding lineOf
-line-length r = refl
 
 lines-length : (n : ℕ) (records : List ℕ) → length (linesOf n records) ≡ n * 15
 unfolding linesOf

@@ -1,68 +1,15 @@
 // The text that the bench program prints.
 ghost use mathlib.Core.Path.{_≡_};
 ghost use mathlib.Core.List.{_∷_, [], _++_};
-ghost use Prim.Native.Nat.{_+_, _<_, _≤_, min};
+ghost use Prim.Native.Nat.{_+_, _≤_, min};
 ghost use lib.ListN.{length};
-ghost use Rattle.report.specs.Numbers.{digitOf, decimalOf};
-ghost use Rattle.report.specs.Text.{letterOf, lineOf, mapLine, countLine, refusedLine};
+ghost use Rattle.report.specs.Numbers.{decimalOf};
+ghost use Rattle.report.specs.Text.{mapLine, countLine, refusedLine};
 ghost use Rattle.report.specs.Put.{Placed, Printed, Listed};
+use lines::LINE;
 
-// The digits, in order of their value.
-const DIGITS: [u8; 16] = *b"0123456789ABCDEF";
-
-// The bytes of a record, and of its line.
+// The bytes of a record.
 const RECORD: usize = 6;
-
-const LINE: usize = 15;
-
-// A digit below 16.
-fn digit(d: u8) -> u8
-    requires { ⌜ d < 16 ⌝ }
-    ensures { λ r. ⌜ r ≡ digitOf d ⌝ }
-{
-    DIGITS[d as usize]
-}
-
-// The letter of a record's kind.
-fn letter(kind: u8) -> u8
-    ensures { λ r. ⌜ r ≡ letterOf kind ⌝ }
-{
-    if kind == 1 {
-        return b'W';
-    }
-    if kind == 2 {
-        return b'R';
-    }
-    b'C'
-}
-
-// The line of the record at the start of a slice.
-fn line_of(bytes: &[u8]) -> [u8; LINE]
-    requires { ⌜ 6 ≤ length (now bytes) ⌝ }
-    ensures { λ r. ⌜ r ≡ lineOf (now (bytes .entry)) ⌝ }
-{
-    let high = bytes[1];
-    let low = bytes[2];
-    let third = bytes[3];
-    let fourth = bytes[4];
-    [
-        letter(bytes[0]),
-        b' ',
-        digit(high / 16),
-        digit(high % 16),
-        digit(low / 16),
-        digit(low % 16),
-        b' ',
-        digit(third / 16),
-        digit(third % 16),
-        b' ',
-        digit(fourth / 16),
-        digit(fourth % 16),
-        b' ',
-        digit(bytes[5] % 16),
-        b'\n',
-    ]
-}
 
 // The lines of as many records as there are and as fit; how many that is.
 pub fn put_lines(records: &[u8], out: &mut [u8]) -> usize
@@ -71,7 +18,7 @@ pub fn put_lines(records: &[u8], out: &mut [u8]) -> usize
     let lines = least(records.len() / RECORD, out.len() / LINE);
     let mut n = 0;
     while n < lines {
-        put(&line_of(&records[n * RECORD..]), out, n * LINE);
+        put(&lines::line_of(&records[n * RECORD..]), out, n * LINE);
         n += 1;
     }
     lines

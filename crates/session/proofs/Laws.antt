@@ -10,7 +10,7 @@ use Rattle.bits.proofs.Laws.{shifted-lt}
 use Rattle.session.specs.declared.Phase.{Phase}
 use Rattle.session.specs.declared.Phase.the-variants.{Rest, Instruction, Data}
 use Rattle.session.specs.declared.Session.{Session}
-use Rattle.session.specs.State.{openedSession, soundSession, isRest, widthOf, Fit}
+use Rattle.session.specs.State.{soundSession, isRest, widthOf, Fit}
 use Rattle.session.specs.Step.{valueWith, stepOf}
 use Rattle.session.specs.Event.{isData}
 use Rattle.session.proofs.Form.{Form, rests, instructs, has-data, form-sound, sound-form, form-step}
@@ -25,9 +25,6 @@ fit-sound s h = fit-form (sound-form s h)
 
 pub sound-step : (s : Session) (x : ℕ) → soundSession s ≡ true → soundSession (stepOf s x) ≡ true
 sound-step s x h = form-sound (form-step (sound-form s h) x)
-
-pub opened-sound : soundSession openedSession ≡ true
-opened-sound = form-sound (rests _ _)
 
 form-rest : {s : Session} → Form s → isRest (s .phase) ≡ s .csb
 form-rest (rests k t) = refl

@@ -1,5 +1,5 @@
--- Document 01, "Registers and session": the session, the opened one, and which are sound. Every session that a definition
--- makes is made by one of the builders here.
+-- Document 01, "Registers and session": the session, and which are sound. Every session that a definition makes
+-- is made by one of the builders here.
 use Prim.Native.Nat.{ℕ, _^_, _<_}
 use mathlib.Core.Bool.{Bool, true, false, not}
 use mathlib.Core.List.{List, [], _∷_}
@@ -75,10 +75,6 @@ withLevels s x = record {
   settings = s .settings;
   used = s .used;
 }
-
--- Opening: at rest, last SCLK low, all settings clear.
-abbrev pub openedSession : Session
-openedSession = resting false (record { lsb = false; ascending = false; sdo = false; single = false; readback = false; slow = false })
 
 -- Soundness, phase by phase. Rest holds exactly if the last CSB is high; at rest all but the settings is zero; an instruction
 -- has 0 to 15 bits, with address and direction zero; data has 0 to 7 bits; the value is below 2 to the number of bits.

@@ -11,7 +11,7 @@ use bits::bit_at;
 use bits::shift_in;
 
 // Whether the phase is data.
-pub fn is_data(phase: Phase) -> bool
+fn is_data(phase: Phase) -> bool
     ensures { λ r. ⌜ r ≡ isData phase ⌝ }
 {
     match phase {

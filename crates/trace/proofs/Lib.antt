@@ -1,4 +1,3 @@
-pub mod Masks
 pub mod Paths
 pub mod Pieces
 pub mod Scanning

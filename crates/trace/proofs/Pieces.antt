@@ -23,7 +23,7 @@ use Rattle.session.specs.Event.{isData, bitEvent, eventOf}
 use Rattle.session.proofs.Form.{Form, rests, instructs, has-data, sound-form}
 use Rattle.session.proofs.Laws.{sound-step, fit-sound, few-bits}
 use Rattle.trace.specs.declared.quiet.Piece.{Piece}
-use Rattle.trace.specs.Words.{Same, Pair, Clocked, gathered}
+use Rattle.words.specs.Words.{Same, Pair, Clocked, gathered}
 use Rattle.trace.specs.Path.{Quiet, still, more}
 use Rattle.trace.specs.Piece.{held, lastOf, lineOf, Apt, Reached}
 use Rattle.trace.proofs.Paths.{joined}
@@ -261,6 +261,12 @@ module _ {xs : List ℕ} {s : Session} {i : ℕ} (up : s .csb ≡ true) where
       let a : p .at + suc n ≡ j = omega arith in
       let b : p .at + n ≡ j - 1 = omega arith in
       rw (a, b) at (highs p n r (λ k g. sym (and-mask (getD xs (p .at + k) 0) 1) ∙ m .all k (omega arith)) (omega (arith, m .within)))
+
+-- seven bits before the last: in data, and in no other phase
+pub last-data : (p : Phase) → eqb (lastOf p) 7 ≡ isData p
+last-data Rest = refl
+last-data Instruction = refl
+last-data Data = refl
 
 pub line-lt : (s : Session) → lineOf s < 4
 line-lt s = each (λ (n : ℕ). n < 4) (isData (s .phase) && s .read && s .used .sdo) (λ e. omega arith) (λ e. omega arith)

@@ -14,7 +14,7 @@ use Rattle.session.specs.Step.{stepOf}
 use Rattle.session.specs.Event.{eventOf}
 use Rattle.session.proofs.Laws.{sound-step}
 use Rattle.trace.specs.declared.quiet.Piece.{Piece}
-use Rattle.trace.specs.Words.{gathered}
+use Rattle.words.specs.Words.{gathered}
 use Rattle.trace.specs.Path.{Quiet, still, more, none, one, Passed, happens}
 use Rattle.trace.specs.Piece.{held, lineOf, Reached, ByteAhead}
 use Rattle.trace.proofs.Paths.{joined, joined-next}

@@ -19,10 +19,10 @@ use Rattle.session.specs.State.{soundSession}
 use Rattle.session.specs.Step.{takesBit, valueWith, withDataBit, stepOf}
 use Rattle.session.specs.Event.{isData, bitEvent, eventOf}
 use Rattle.session.proofs.Form.{Form, rests, instructs, has-data, sound-form}
-use Rattle.trace.specs.Words.{Pair, gathered}
+use Rattle.words.specs.Words.{Pair, gathered}
 use Rattle.trace.specs.Path.{Next, one}
 use Rattle.trace.specs.Piece.{held, lastOf, lineOf, streamTests, ByteAhead}
-use Rattle.trace.proofs.Masks.{gathered-more}
+use Rattle.words.proofs.Masks.{gathered-more}
 use Rattle.trace.proofs.Pieces.{piece, on-line, bits-passed, bit-taken, no-value}
 
 -- a session with the level of SCLK high and another address

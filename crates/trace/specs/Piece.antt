@@ -12,7 +12,7 @@ use Rattle.session.specs.declared.Session.{Session}
 use Rattle.session.specs.State.{soundSession}
 use Rattle.session.specs.Event.{isData}
 use Rattle.trace.specs.declared.quiet.Piece.{Piece}
-use Rattle.trace.specs.Words.{Clocked}
+use Rattle.words.specs.Words.{Clocked}
 use Rattle.trace.specs.Path.{Quiet}
 
 -- a session with the level, the bits and the value of a piece

@@ -6,20 +6,19 @@ ghost use lib.ListN.{length};
 ghost use Rattle.bits.specs.Tests.{every};
 ghost use Rattle.session.specs.declared.Event.the-variants.{Whole};
 ghost use Rattle.session.specs.State.{soundSession};
-ghost use Rattle.trace.specs.Words.{gathered};
+ghost use Rattle.words.specs.Words.{gathered};
 ghost use Rattle.trace.specs.Path.{Passed, happens};
 ghost use Rattle.trace.specs.Piece.{lineOf, streamTests, ByteAhead};
 
 mod quiet;
-mod words;
 
+use crate::quiet::last_of;
 use crate::quiet::line_of;
 use crate::quiet::quiet;
-use crate::words::clocked;
-use crate::words::gather;
 use session::Event;
 use session::Session;
-use session::is_data;
+use words::clocked;
+use words::gather;
 
 // An event, or nothing at the end of the samples; the session after it, and the place of the next sample.
 pub struct Next {
@@ -52,7 +51,7 @@ fn streams(session: Session) -> bool
     ensures { λ r. ⌜ r ≡ every (streamTests session) ⌝ }
 {
     let phase = session.phase;
-    is_data(phase)
+    (last_of(phase) == 7)
         & (session.bits == 0)
         & !session.csb
         & !session.used.single

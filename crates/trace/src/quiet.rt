@@ -5,14 +5,13 @@ ghost use Prim.Native.Nat.{_<_, _≤_};
 ghost use lib.ListN.{length};
 ghost use Rattle.session.specs.State.{soundSession};
 ghost use Rattle.trace.specs.Piece.{held, lastOf, lineOf, Apt, Reached};
-use crate::words::clocked;
-use crate::words::gather;
-use crate::words::past_same;
 use bits::bit_at;
 use bits::shift_in;
 use session::Phase;
 use session::Session;
-use session::is_data;
+use words::clocked;
+use words::gather;
+use words::past_same;
 
 // What samples without an event change of a session, the level of SCLK (0 or 2), the bits taken and their value; and the place
 // of the next sample.
@@ -23,8 +22,8 @@ pub struct Piece {
     pub at: usize,
 }
 
-// How many bits come before the last of a piece.
-fn last_of(phase: Phase) -> u8
+// How many bits come before the last of a piece: seven in data, and in no other phase.
+pub fn last_of(phase: Phase) -> u8
     ensures { λ r. ⌜ r ≡ lastOf phase ⌝ }
 {
     match phase {
@@ -39,7 +38,7 @@ pub fn line_of(session: Session) -> u8
     ensures { λ r. ⌜ r ≡ lineOf session ⌝ }
 {
     let phase = session.phase;
-    if is_data(phase) & session.read & session.used.sdo {
+    if (last_of(phase) == 7) & session.read & session.used.sdo {
         3
     } else {
         2

@@ -38,7 +38,7 @@ same-length-5 c = search needs
 returns-2 : tie.Need-returns-2
 returns-2 c =
     let r = c .before .before .before .before .before .before .before in
-    let t = r .before .before .before .before .before in
+    let t = r .before .before .before .before in
     read-on _ _ _ _ _ _ _ (t .before .before .before .before .before .before .«open» .ensures) (t .if1 .left) _ _ _ _ (r .read .ensures)
 
 pub benchmark-read-spec : {M : Type 1} → statement M

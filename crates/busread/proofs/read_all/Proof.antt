@@ -1,6 +1,6 @@
 -- `busread::read_all` meets what its calls ask: a map that was opened is good.
 use borrow.Author.Needs.{needs}
-use Rattle.reader.proofs.Refusals.{opened-good}
+use Rattle.reader.proofs.Laws.{opened-good}
 use Rattle.busread.proofs.Laws.{open-told}
 use Rattle.busread.proofs.read_all.Statement.{statement}
 use Rattle.busread.proofs.read_all.Tie as tie

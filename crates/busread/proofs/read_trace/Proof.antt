@@ -5,7 +5,7 @@ use native.Mathlib.Omega.{arith}
 use lib.ListN.{length}
 use lib.Seq.{length-take-le}
 use borrow.Author.Needs.{needs}
-use Rattle.busread.proofs.Laws.{within-bytes, few-taken, records-within, piece-bounds}
+use Rattle.busread.proofs.Laws.{within-bytes, few-taken, records-within, fewer-records, piece-bounds}
 use Rattle.busread.proofs.read_trace.Statement.{statement}
 use Rattle.busread.proofs.read_trace.Tie as tie
 
@@ -124,7 +124,7 @@ loop-again c =
     let f = r .before .before .before .before .before .before .before .before .before .fill in
     let h = r .before .before .before .before .before .before .before .before .before .before .before .before .loop .inv in
     let k = r .read-tested .kept .1 .1 in
-    (k .0 ∙ h .0, k .1 .0 ∙ h .1, f .kept .0 ∙ h .2, k .1 .1 .1 .0 ∙ h .3, omega (arith, records-within _ _ _ _ (r .read-tested .ensures) (h .3), h .4))
+    (k .0 ∙ h .0, k .1 .0 ∙ h .1, f .kept .0 ∙ h .2, k .1 .1 .1 .0 ∙ h .3, fewer-records _ (records-within _ _ _ _ (r .read-tested .ensures) (h .3)) (c .before .if2 .left) (h .4))
 
 same-length-7 : tie.Need-same-length-7 Inv-loop μ-loop
 same-length-7 c = c .before .loop .inv .0

@@ -1,27 +1,34 @@
--- `configures_early` meets its contract: what is left of the run decides, until an address is found or the last byte is reached.
+-- `configures_early` meets its contract: of a write in single instruction what is left of the run decides, until an address is found or
+-- the last byte is reached.
 use Prim.Native.Nat.{_-_}
 use mathlib.Core.Path.{refl}
 use native.Mathlib.Omega.{arith}
 use lib.ListN.{length}
 use borrow.Author.Needs.{needs}
+use borrow.Author.Tests.{not-true, not-false}
 use Rattle.order.proofs.Early.{Looking, found, passed, missed}
 use Rattle.order.proofs.configures_early.Statement.{statement}
 use Rattle.order.proofs.configures_early.Tie as tie
 
 abbrev Inv-loop : tie.InvT-loop
-Inv-loop ascending start «data» address₀ i₀ address i = Looking ascending start «data» address i
+Inv-loop single ascending start «data» address₀ i₀ address i = Looking ascending start «data» address i
 
 abbrev μ-loop : tie.MeasureT-loop
-μ-loop ascending start «data» address₀ i₀ address i = length «data» - i
+μ-loop single ascending start «data» address₀ i₀ address i = length «data» - i
+
+returns : tie.Need-returns Inv-loop μ-loop
+returns c = rw (not-true (c .before .before .args .single-write) (c .if1 .taken))
 
 loop-holds : tie.Need-loop-holds Inv-loop μ-loop
-loop-holds c = record { within = omega arith; near = c .before .pre; rest = refl }
+loop-holds c = record { within = omega arith; near = c .before .before .pre; rest = refl }
 
 add-loop : tie.Need-add-loop Inv-loop μ-loop
 add-loop c = search needs
 
-returns : tie.Need-returns Inv-loop μ-loop
-returns c = found (c .before .before .loop .inv) (c .before .loop-test .taken) (c .if1 .taken)
+returns-2 : tie.Need-returns-2 Inv-loop μ-loop
+returns-2 c =
+    rw (not-false (c .before .before .before .before .before .args .single-write) (c .before .before .before .if1 .left))
+    (found (c .before .before .loop .inv) (c .before .loop-test .taken) (c .if2 .taken))
 
 next-address-requires : tie.Need-next-address-requires Inv-loop μ-loop
 next-address-requires c κs = search needs
@@ -35,10 +42,12 @@ loop-less c = omega arith
 loop-again : tie.Need-loop-again Inv-loop μ-loop
 loop-again c =
     rw (c .next-address .ensures)
-    (passed (c .before .before .before .loop .inv) (c .before .before .loop-test .taken) (c .before .if1 .left))
+    (passed (c .before .before .before .loop .inv) (c .before .before .loop-test .taken) (c .before .if2 .left))
 
-returns-2 : tie.Need-returns-2 Inv-loop μ-loop
-returns-2 c = missed (c .before .loop .inv) (c .loop-test .left)
+returns-3 : tie.Need-returns-3 Inv-loop μ-loop
+returns-3 c =
+    rw (not-false (c .before .before .before .before .args .single-write) (c .before .before .if1 .left))
+    (missed (c .before .loop .inv) (c .loop-test .left))
 
 pub configures-early-spec : {M : Type 1} → statement M
 configures-early-spec =
@@ -46,11 +55,12 @@ configures-early-spec =
     (tie.spec
     Inv-loop
     μ-loop
+    returns
     loop-holds
     add-loop
-    returns
+    returns-2
     next-address-requires
     add-i
     loop-less
     loop-again
-    returns-2)
+    returns-3)

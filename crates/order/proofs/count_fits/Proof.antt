@@ -1,14 +1,13 @@
 -- `count_fits` meets its contract: its three tests are those of the definition.
 use mathlib.Core.Path.{_≡_, refl}
-use mathlib.Core.Bool.{Bool, true, false, _&&_}
+use mathlib.Core.Bool.{Bool, true, false, cond, _&&_}
 use mathlib.Core.List.{[], _∷_}
+use mathlib.Core.Logic.{⊎-elim}
+use lib.Dec.{eqb}
+use borrow.Author.Tests.{eq-eqb, ne-eqb}
 use Rattle.bits.specs.Tests.{every}
-use borrow.Author.Needs.{needs}
 use Rattle.order.proofs.count_fits.Statement.{statement}
 use Rattle.order.proofs.count_fits.Tie as tie
-
-data-due-requires : tie.Need-data-due-requires
-data-due-requires c κs = search needs
 
 three : (a b c : Bool) → (a && b && c) ≡ every (a ∷ b ∷ c ∷ [])
 unfolding every
@@ -17,8 +16,11 @@ three true true false = refl
 three true false c = refl
 three false b c = refl
 
+due-is : (c : tie.Joined1) → c .if1 .due ≡ cond (eqb (c .before .args .direction) 1) 0 (c .before .args .count)
+due-is c = ⊎-elim (λ w. rw (eq-eqb _ _ (w .0 .taken)) (w .1)) (λ w. rw (ne-eqb _ _ (w .0 .left)) (w .1)) (c .if1 .came)
+
 returns : tie.Need-returns
-returns c = rw (c .data-due .ensures) (three _ _ _)
+returns c = rw (due-is c) (three _ _ _)
 
 pub count-fits-spec : {M : Type 1} → statement M
-count-fits-spec = tie.close (tie.spec data-due-requires returns)
+count-fits-spec = tie.close (tie.spec returns)

@@ -48,14 +48,14 @@ bit-at-requires c κs = search needs
 bit-at-requires-2 : tie.Need-bit-at-requires-2
 bit-at-requires-2 c κs = search needs
 
-cast-single-configures-early : tie.Need-cast-single-configures-early
-cast-single-configures-early c = search needs
+cast-configures-early : tie.Need-cast-configures-early
+cast-configures-early c = search needs
 
-single-configures-early-requires : tie.Need-single-configures-early-requires
-single-configures-early-requires c κs = search needs
+configures-early-requires : tie.Need-configures-early-requires
+configures-early-requires c κs = search needs
 
-early : (c : tie.After-single-configures-early) → c .single-configures-early .result ≡ earlyData (asked (c .before .before .before .before .before .before .before .before))
-early c = rw (c .before .before .bit-at .ensures, c .before .bit-at2 .ensures) at (c .single-configures-early .ensures)
+early : (c : tie.After-configures-early) → c .configures-early .result ≡ earlyData (asked (c .before .before .before .before .before .before .before .before))
+early c = rw (c .before .before .bit-at .ensures, c .before .bit-at2 .ensures) at (c .configures-early .ensures)
 
 returns-4 : tie.Need-returns-4
 returns-4 c =
@@ -87,8 +87,8 @@ number-of-spec =
     cast-s
     bit-at-requires
     bit-at-requires-2
-    cast-single-configures-early
-    single-configures-early-requires
+    cast-configures-early
+    configures-early-requires
     returns-4
     sample-count-requires
     returns-5

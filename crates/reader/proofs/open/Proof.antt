@@ -1,7 +1,8 @@
 -- `open` meets its contract: done, each default stands in both banks; refused, the banks are as they were.
 use borrow.Author.Needs.{needs}
 use mathlib.Core.Path.{refl, sym, _∙_}
-use Rattle.reader.proofs.Refusals.{opens, fits-mapped, open-refused, open-done}
+use Rattle.refusals.proofs.Laws.{opens, fits-mapped}
+use Rattle.reader.proofs.Laws.{open-refused, open-done}
 use Rattle.reader.proofs.open.Statement.{statement}
 use Rattle.reader.proofs.open.Tie as tie
 

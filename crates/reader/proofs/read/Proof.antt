@@ -2,7 +2,8 @@
 use borrow.Author.Needs.{needs}
 use mathlib.Core.Path.{sym, _∙_}
 use native.Mathlib.Omega.{arith}
-use Rattle.reader.proofs.Refusals.{unsound, map-first, read-refused}
+use Rattle.refusals.proofs.Laws.{unsound, map-first}
+use Rattle.reader.proofs.Laws.{read-refused}
 use Rattle.reader.proofs.read.Statement.{statement}
 use Rattle.reader.proofs.read.Tie as tie
 

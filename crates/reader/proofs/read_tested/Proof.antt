@@ -1,7 +1,7 @@
 -- `read_tested` meets its contract: a refusal changes nothing; else the pass over the samples gives all of it.
 use mathlib.Core.Path.{refl}
-use Rattle.reader.specs.Reading.{world}
-use Rattle.reader.proofs.Refusals.{read-ready, read-refused, read-done}
+use Rattle.run.specs.Reading.{world}
+use Rattle.reader.proofs.Laws.{read-ready, read-refused, read-done}
 use Rattle.reader.proofs.read_tested.Statement.{statement}
 use Rattle.reader.proofs.read_tested.Tie as tie
 

@@ -36,8 +36,8 @@ returns c = took-read (c .before .before .before .before .before .before .before
 write-requires : tie.Need-write-requires
 write-requires c κs = search needs
 
-put-record-requires : tie.Need-put-record-requires
-put-record-requires c κs = room-for (c .before .before .before .before .before .before .before .before .before .before .before .before .before .before .before .before .pre) (ap recordsIn (c .before .before .before .before .before .before .before .before .before .before .event .given .1))
+put-write-requires : tie.Need-put-write-requires
+put-write-requires c κs = room-for (c .before .before .before .before .before .before .before .before .before .before .before .before .before .before .before .before .pre) (ap recordsIn (c .before .before .before .before .before .before .before .before .before .before .event .given .1))
 
 add-result-2 : tie.Need-add-result-2
 add-result-2 c = search needs
@@ -61,10 +61,10 @@ same-length-5 : tie.Need-same-length-5
 same-length-5 c = c .before .before .before .before .before .before .before .before .write .kept .1 .1 .0
 
 same-length-6 : tie.Need-same-length-6
-same-length-6 c = c .before .before .put-record .kept .0
+same-length-6 c = c .before .before .put-write .kept .0
 
 returns-3 : tie.Need-returns-3
-returns-3 c = took-write (c .before .before .before .before .before .before .before .before .before .before .before .before .before .event .given .1) (c .before .before .before .before .before .before .before .before .before .before .before .if1 .left) (c .before .before .before .before .before .before .before .before .write .ensures) (c .before .before .put-record .ensures)
+returns-3 c = took-write (c .before .before .before .before .before .before .before .before .before .before .before .before .before .event .given .1) (c .before .before .before .before .before .before .before .before .before .before .before .if1 .left) (c .before .before .before .before .before .before .before .before .write .ensures) (c .before .before .put-write .ensures)
 
 same-length-7 : tie.Need-same-length-7
 same-length-7 c = c .before .before .put-abort .kept .0
@@ -86,7 +86,7 @@ take-event-spec =
     same-length-3
     returns
     write-requires
-    put-record-requires
+    put-write-requires
     add-result-2
     enum-known-event-2
     put-abort-requires

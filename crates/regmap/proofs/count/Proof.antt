@@ -4,12 +4,36 @@ use Rattle.regmap.specs.Format.{countOf}
 use Rattle.regmap.proofs.count.Statement.{statement}
 use Rattle.regmap.proofs.count.Tie as tie
 
-word-at-requires : tie.Need-word-at-requires
-word-at-requires c κs = search needs
+byte-at-requires : tie.Need-byte-at-requires
+byte-at-requires c κs = search needs
+
+cast-result : tie.Need-cast-result
+cast-result c = search needs
+
+mul-result : tie.Need-mul-result
+mul-result c = search needs
+
+byte-at-requires-2 : tie.Need-byte-at-requires-2
+byte-at-requires-2 c κs = search needs
+
+cast-result-2 : tie.Need-cast-result-2
+cast-result-2 c = search needs
+
+add-result : tie.Need-add-result
+add-result c = search needs
 
 returns : tie.Need-returns
 unfolding countOf
-returns c = c .word-at .ensures
+returns c = rw (c .byte-at2 .ensures, c .before .byte-at .ensures)
 
 pub count-spec : {M : Type 1} → statement M
-count-spec = tie.close (tie.spec word-at-requires returns)
+count-spec =
+    tie.close
+    (tie.spec
+    byte-at-requires
+    cast-result
+    mul-result
+    byte-at-requires-2
+    cast-result-2
+    add-result
+    returns)

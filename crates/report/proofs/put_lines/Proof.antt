@@ -4,8 +4,9 @@ use mathlib.Core.Path.{ap, _∙_}
 use Prim.Native.Nat.{_-_}
 use native.Mathlib.Omega.{arith}
 use lib.ListN.{length-drop}
-use Rattle.report.specs.Text.{lineOf}
-use Rattle.report.proofs.Laws.{Listing, begun, turned, ended, from-on, line-length}
+use Rattle.lines.specs.Line.{lineOf}
+use Rattle.lines.proofs.Laws.{line-length}
+use Rattle.report.proofs.Laws.{Listing, begun, turned, ended, from-on}
 use Rattle.report.proofs.put_lines.Statement.{statement}
 use Rattle.report.proofs.put_lines.Tie as tie
 

@@ -1,7 +1,7 @@
 -- `byte_event` meets its contract: the byte is that of the eight pairs of samples.
 use borrow.Author.Needs.{needs}
 use native.Mathlib.Omega.{arith}
-use Rattle.trace.proofs.Masks.{gathered-lt}
+use Rattle.words.proofs.Masks.{gathered-lt}
 use Rattle.trace.proofs.Pieces.{line-lt}
 use Rattle.trace.proofs.byte_event.Statement.{statement}
 use Rattle.trace.proofs.byte_event.Tie as tie

@@ -3,16 +3,17 @@ use borrow.Author.Needs.{needs}
 use mathlib.Core.Bool.{true}
 use Rattle.bits.proofs.Cases.{joined-every}
 use Rattle.trace.specs.Piece.{streamTests}
+use Rattle.trace.proofs.Pieces.{last-data}
 use Rattle.trace.proofs.streams.Statement.{statement}
 use Rattle.trace.proofs.streams.Tie as tie
 
-is-data-requires : tie.Need-is-data-requires
-is-data-requires c κs = search needs
+last-of-requires : tie.Need-last-of-requires
+last-of-requires c κs = search needs
 
 returns : tie.Need-returns
 returns c =
-    rw (c .before .before .before .before .before .is-data .ensures)
+    rw (c .before .before .before .before .before .last-of .ensures, last-data)
     (joined-every true (streamTests (c .before .before .before .before .before .before .args .session)))
 
 pub streams-spec : {M : Type 1} → statement M
-streams-spec = tie.close (tie.spec is-data-requires returns)
+streams-spec = tie.close (tie.spec last-of-requires returns)

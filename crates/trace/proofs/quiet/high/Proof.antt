@@ -5,7 +5,7 @@ use mathlib.Core.Path.{refl}
 use native.Mathlib.Omega.{arith}
 use lib.ListN.{length}
 use Rattle.trace.specs.Piece.{Reached}
-use Rattle.trace.proofs.Masks.{last-high}
+use Rattle.words.proofs.Masks.{last-high}
 use Rattle.trace.proofs.Pieces.{piece, own, past-high}
 use Rattle.trace.proofs.quiet.high.Statement.{statement}
 use Rattle.trace.proofs.quiet.high.Tie as tie

@@ -4,7 +4,7 @@ use Prim.Native.Nat.{_+_, _*_}
 use mathlib.Core.Path.{_≡_, refl, sym, _∙_}
 use native.Mathlib.Omega.{arith}
 use borrow.Author.Tests.{not-false}
-use Rattle.trace.proofs.Masks.{clocked-join}
+use Rattle.words.proofs.Masks.{clocked-join}
 use Rattle.trace.proofs.Pieces.{own, bits-passed, instruction-last, line-lt}
 use Rattle.trace.proofs.quiet.past_bits.Statement.{statement}
 use Rattle.trace.proofs.quiet.past_bits.Tie as tie

@@ -1,0 +1,72 @@
+-- Laws of the map test: what number 0 says of n, of each entry and of the control registers.
+use mathlib.Core.Path.{_≡_, refl, _∙_}
+use mathlib.Core.Bool.{Bool, true, false, _&&_, _||_}
+use mathlib.Core.List.{List}
+use Prim.Native.Nat.{ℕ, _+_, _*_, _≤_, _<_}
+use native.Mathlib.Nat.{zero-add}
+use native.Mathlib.Omega.{arith}
+use borrow.Author.Tests.{leb-true, eqb-true}
+use lib.ListN.{length}
+use lib.Dec.{eqb}
+use Rattle.bits.specs.Tests.{every, unless}
+use Rattle.bits.proofs.Cases.{each, and-left, and-right, every-true}
+use Rattle.regmap.specs.Format.{lengthOf, countOf, registerAt, control}
+use Rattle.maptest.specs.MapTest.{formTests, Formed, kindRule, placeRule, entryGood, entriesGood, furtherTests, mapNumber}
+use Rattle.maptest.proofs.Entries.{entries-each}
+use Rattle.maptest.proofs.Places.{placed-control}
+
+-- the tests of the form, each turned into its fact
+pub formed : (m : List ℕ) → every (formTests m) ≡ true → Formed m
+formed m h =
+    let t = every-true (formTests m) h .1 .1 .1 in
+    record {
+      least = leb-true 16 (countOf m) (t .0);
+      most = leb-true (countOf m) 8192 (t .1 .0);
+      whole = eqb-true (length m) (5 + 3 * countOf m) (t .1 .1 .0);
+    }
+
+both-pass : (a b : Bool) → unless a 2 (unless b 3 0) ≡ 0 → (a ≡ true) × (b ≡ true)
+both-pass true true h = (refl, refl)
+both-pass true false h = absurd (omega arith)
+both-pass false b h = absurd (omega arith)
+
+-- the numbers of the map test
+pub map-number-most : (m : List ℕ) → mapNumber m ≤ 3
+unfolding mapNumber
+map-number-most m =
+    each (λ (n : ℕ). n ≤ 3) (every (formTests m))
+    (λ t. each (λ (n : ℕ). n ≤ 3) (entriesGood m 0 (countOf m) && every (furtherTests m)) (λ t. omega arith) (λ t. omega arith))
+    (λ t. omega arith)
+
+module _ (m : List ℕ) (good : mapNumber m ≡ 0) where
+  passed : (every (formTests m) ≡ true) × ((entriesGood m 0 (countOf m) && every (furtherTests m)) ≡ true)
+  unfolding mapNumber
+  passed = both-pass (every (formTests m)) (entriesGood m 0 (countOf m) && every (furtherTests m)) good
+
+  pub good-form : length m ≡ 5 + 3 * countOf m
+  good-form = formed m (passed .0) .whole
+
+  pub good-length : lengthOf m ≡ 3 + 3 * countOf m
+  good-length = eqb-true (lengthOf m) (3 + 3 * countOf m) (every-true (formTests m) (passed .0) .1 .0)
+
+  pub good-count : (16 ≤ countOf m) × (countOf m ≤ 8192)
+  good-count = let f = formed m (passed .0) in (f .least, f .most)
+
+  pub good-entry : (a : ℕ) → a < countOf m → entryGood m a ≡ true
+  good-entry a h =
+      rw zero-add at
+      (entries-each m 0 (countOf m) (and-left (entriesGood m 0 (countOf m)) (every (furtherTests m)) (passed .1)) a h)
+
+  -- control exactly at 0x0000, 0x0001 and 0x000F, as a test
+  pub control-exactly : (a : ℕ) → a < countOf m → eqb (registerAt m a .kind) control ≡ (eqb a 0x0000 || (eqb a 0x0001 || eqb a 0x000F))
+  unfolding entryGood
+  control-exactly a h =
+      placed-control a (registerAt m a .kind)
+      (and-right (kindRule (registerAt m a)) (placeRule a (registerAt m a .kind)) (good-entry a h))
+
+  -- each place that is one of the three holds control
+  pub control-at : (a : ℕ) → a < 16 → (eqb a 0x0000 || (eqb a 0x0001 || eqb a 0x000F)) ≡ true → registerAt m a .kind ≡ control
+  control-at a l t = eqb-true (registerAt m a .kind) control (control-exactly a (omega (arith, good-count)) ∙ t)
+
+  pub control-15 : registerAt m 0x000F .kind ≡ control
+  control-15 = control-at 0x000F (omega arith) refl

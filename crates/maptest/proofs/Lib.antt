@@ -1,0 +1,3 @@
+mod Entries
+mod Places
+pub mod Laws

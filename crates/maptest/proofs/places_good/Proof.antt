@@ -1,0 +1,61 @@
+-- `maptest::places_good` meets its contract: what the loop has found, with the entries that are left, is the whole run.
+use mathlib.Core.Path.{ap, _∙_}
+use Prim.Native.Nat.{_-_}
+use native.Mathlib.Omega.{arith}
+use borrow.Author.Needs.{needs}
+use Rattle.regmap.specs.declared.Entry.{Entry}
+use Rattle.maptest.specs.MapTest.{kindRule, placeRule}
+use Rattle.maptest.proofs.Entries.{Tested, begun, again, ended}
+use Rattle.maptest.proofs.places_good.Statement.{statement}
+use Rattle.maptest.proofs.places_good.Tie as tie
+
+abbrev Inv-loop : tie.InvT-loop
+Inv-loop map good₀ address₀ good address = Tested map 0 16 good address
+
+abbrev μ-loop : tie.MeasureT-loop
+μ-loop map good₀ address₀ good address = 16 - address
+
+loop-holds : tie.Need-loop-holds Inv-loop μ-loop
+loop-holds c = begun _ 0 16 (omega arith)
+
+register-at-requires : tie.Need-register-at-requires Inv-loop μ-loop
+register-at-requires c κs = search needs
+
+kind-good-requires : tie.Need-kind-good-requires Inv-loop μ-loop
+kind-good-requires c κs = search needs
+
+place-good-requires : tie.Need-place-good-requires Inv-loop μ-loop
+place-good-requires c κs = search needs
+
+add-address : tie.Need-add-address Inv-loop μ-loop
+add-address c = omega arith
+
+loop-less : tie.Need-loop-less Inv-loop μ-loop
+loop-less c = omega arith
+
+loop-again : tie.Need-loop-again Inv-loop μ-loop
+loop-again c =
+    let k = c .before in
+    let entry = k .before in
+    let at = entry .before .before .loop in
+    again _ 0 16 (at .good) (at .address) (at .inv) (k .kind-good .result) (c .place-good .result) (entry .before .loop-test .taken)
+    (k .kind-good .ensures ∙ ap kindRule (entry .register-at .ensures))
+    (c .place-good .ensures ∙ ap (λ (e : Entry). placeRule (at .address) (e .kind)) (entry .register-at .ensures))
+
+returns : tie.Need-returns Inv-loop μ-loop
+returns c = let at = c .before .loop in ended _ 0 16 (at .good) (at .address) (at .inv) (c .loop-test .left)
+
+pub places-good-spec : {M : Type 1} → statement M
+places-good-spec =
+    tie.close
+    (tie.spec
+    Inv-loop
+    μ-loop
+    loop-holds
+    register-at-requires
+    kind-good-requires
+    place-good-requires
+    add-address
+    loop-less
+    loop-again
+    returns)

@@ -1,0 +1,42 @@
+-- `maptest::register_at` meets its contract: inside a map of good form the three bytes of an entry are there.
+use borrow.Author.Needs.{needs}
+use Rattle.regmap.proofs.Laws.{entry-bytes}
+use Rattle.maptest.proofs.register_at.Statement.{statement}
+use Rattle.maptest.proofs.register_at.Tie as tie
+
+mul-at : tie.Need-mul-at
+mul-at c = search needs
+
+add-at : tie.Need-add-at
+add-at c = search needs
+
+shared-slice-read-t6 : tie.Need-shared-slice-read-t6
+shared-slice-read-t6 c = search needs
+
+add-t4 : tie.Need-add-t4
+add-t4 c = search needs
+
+shared-slice-read-t8 : tie.Need-shared-slice-read-t8
+shared-slice-read-t8 c = search needs
+
+add-t9 : tie.Need-add-t9
+add-t9 c = search needs
+
+shared-slice-read-t11 : tie.Need-shared-slice-read-t11
+shared-slice-read-t11 c = search needs
+
+returns : tie.Need-returns
+returns c = entry-bytes _ _ _ (c .before .before .before .pre .1)
+
+pub register-at-spec : {M : Type 1} → statement M
+register-at-spec =
+    tie.close
+    (tie.spec
+    mul-at
+    add-at
+    shared-slice-read-t6
+    add-t4
+    shared-slice-read-t8
+    add-t9
+    shared-slice-read-t11
+    returns)

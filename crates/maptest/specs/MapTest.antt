@@ -1,0 +1,81 @@
+-- Document 01, "The map" and "Numbers given back": the map test, 0 done, 2 or 3.
+use Prim.Native.Nat.{ℕ, zero, suc, _+_, _*_, _≤_}
+use mathlib.Core.Path.{_≡_}
+use mathlib.Core.Bool.{Bool, true, false, cond, not, _&&_}
+use mathlib.Core.List.{List, [], _∷_}
+use lib.ListN.{length, getD}
+use lib.Dec.{eqb, leb}
+use Rattle.bits.specs.Tests.{every, unless}
+use Rattle.regmap.specs.declared.Entry.{Entry}
+use Rattle.regmap.specs.Format.{lengthOf, versionOf, countOf, blank, readOnly, plain, buffered, control, registerAt}
+
+-- Number 2: fewer than 5 bytes; length, version or n wrong; or a slice that is not as long as the map.
+abbrev pub formTests : List ℕ → List Bool
+formTests m =
+    leb 5 (length m)
+    ∷ eqb (lengthOf m) (3 + 3 * countOf m)
+    ∷ eqb (versionOf m) 1
+    ∷ leb 16 (countOf m)
+    ∷ leb (countOf m) 8192
+    ∷ eqb (length m) (5 + 3 * countOf m)
+    ∷ []
+
+-- What good form gives: n is 16 to 8,192, and all the entries are there.
+pub record Formed (m : List ℕ) : Type 0 where
+  pub least : 16 ≤ countOf m
+  pub most : countOf m ≤ 8192
+  pub whole : length m ≡ 5 + 3 * countOf m
+
+-- The entry rule: what each kind asks of mask and default.
+unfoldable pub kindRule : Entry → Bool
+kindRule e =
+    cond (eqb (e .kind) blank) (eqb (e .mask) 0 && eqb (e .default) 0)
+    (cond (eqb (e .kind) readOnly) (eqb (e .mask) 0)
+    (cond (eqb (e .kind) plain) true
+    (cond (eqb (e .kind) buffered) true
+    (cond (eqb (e .kind) control) (eqb (e .mask) 0 && eqb (e .default) 0)
+    false))))
+
+-- a place where any kind but control may stand
+abbrev pub free : ℕ
+free = 9
+
+-- The kind that each address from 0x0000 to 0x000F asks for.
+abbrev pub placeKinds : List ℕ
+placeKinds =
+    control ∷ control ∷ free ∷ readOnly ∷ readOnly ∷ readOnly ∷ readOnly ∷ blank
+    ∷ free ∷ free ∷ plain ∷ readOnly ∷ readOnly ∷ readOnly ∷ blank ∷ control ∷ []
+
+-- The kind fits the place: control exactly at 0x0000, 0x0001 and 0x000F, and the further rules' kinds.
+unfoldable pub placeRule : ℕ → ℕ → Bool
+placeRule address kind =
+    cond (eqb (getD placeKinds address free) free) (not (eqb kind control)) (eqb kind (getD placeKinds address free))
+
+unfoldable pub entryGood : List ℕ → ℕ → Bool
+entryGood m a = kindRule (registerAt m a) && placeRule a (registerAt m a .kind)
+
+-- k entries, from address a on
+unfoldable pub entriesGood : List ℕ → ℕ → ℕ → Bool
+entriesGood m a zero = true
+entriesGood m a (suc k) = entryGood m a && entriesGood m (a + 1) k
+
+-- the product number: 0x0004 low, 0x0005 high
+abbrev pub productOf : List ℕ → ℕ
+productOf m = registerAt m 0x0005 .default * 256 + registerAt m 0x0004 .default
+
+-- The further rules on single bytes: the vendor bytes, the product number, and the mask of scratch.
+abbrev pub furtherTests : List ℕ → List Bool
+furtherTests m =
+    eqb (registerAt m 0x000C .default) 0x56
+    ∷ eqb (registerAt m 0x000D .default) 0x04
+    ∷ not (eqb (productOf m) 0x0000)
+    ∷ not (eqb (productOf m) 0xFFFF)
+    ∷ eqb (registerAt m 0x000A .mask) 0xFF
+    ∷ []
+
+-- The number of the map test: the lowest that applies.
+unfoldable pub mapNumber : List ℕ → ℕ
+mapNumber m =
+    unless (every (formTests m)) 2
+    (unless (entriesGood m 0 (countOf m) && every (furtherTests m)) 3
+    0)

@@ -1,0 +1,144 @@
+// The map test: whether a register map may be used. Its number is 0, 2 or 3, the lowest that applies.
+ghost use mathlib.Core.Path.{_≡_};
+ghost use Prim.Native.Nat.{_<_, _-_};
+ghost use Rattle.bits.specs.Tests.{every};
+ghost use Rattle.regmap.specs.Format.{countOf, registerAt};
+ghost use Rattle.maptest.specs.MapTest.{formTests, Formed, kindRule, placeRule, entriesGood, furtherTests, mapNumber};
+use regmap::BLANK;
+use regmap::BUFFERED;
+use regmap::CONTROL;
+use regmap::Entry;
+use regmap::PLAIN;
+use regmap::READ_ONLY;
+use regmap::count;
+
+// A place where any kind but control may stand.
+const FREE: u8 = 9;
+
+// The kind that each address from 0x0000 to 0x000F asks for.
+const PLACE_KINDS: [u8; 16] = [
+    CONTROL,
+    CONTROL,
+    FREE,
+    READ_ONLY,
+    READ_ONLY,
+    READ_ONLY,
+    READ_ONLY,
+    BLANK,
+    FREE,
+    FREE,
+    PLAIN,
+    READ_ONLY,
+    READ_ONLY,
+    READ_ONLY,
+    BLANK,
+    CONTROL,
+];
+
+// Whether the head is right and the slice as long as the map.
+fn form_good(map: &[u8]) -> bool
+    ensures { λ r. ⌜ r ≡ every (formTests (now (map .entry))) ⌝ }
+{
+    if map.len() < 5 {
+        return false;
+    }
+    let n = count(map);
+    let entries = 3 * n;
+    let length = map[0] as usize * 256 + map[1] as usize;
+    (length == 3 + entries) & (map[2] == 1) & (16 <= n) & (n <= 8192) & (map.len() == 5 + entries)
+}
+
+// The entry of a register that the map has.
+fn register_at(map: &[u8], address: usize) -> Entry
+    requires { ⌜ (Formed (now map)) × (address < countOf (now map)) ⌝ }
+    ensures { λ r. ⌜ r ≡ registerAt (now (map .entry)) address ⌝ }
+{
+    let at = 5 + 3 * address;
+    Entry {
+        kind: map[at],
+        mask: map[at + 1],
+        default: map[at + 2],
+    }
+}
+
+// Whether mask and default are as the kind asks.
+fn kind_good(entry: Entry) -> bool
+    ensures { λ r. ⌜ r ≡ kindRule entry ⌝ }
+{
+    let changes = (entry.kind == PLAIN) | (entry.kind == BUFFERED);
+    let fixed = (entry.kind == BLANK) | (entry.kind == CONTROL);
+    changes | (entry.mask == 0) & ((entry.kind == READ_ONLY) | fixed & (entry.default == 0))
+}
+
+// Whether a kind fits one of the first sixteen places.
+fn place_good(address: usize, kind: u8) -> bool
+    requires { ⌜ address < 16 ⌝ }
+    ensures { λ r. ⌜ r ≡ placeRule address kind ⌝ }
+{
+    let place = PLACE_KINDS[address];
+    if place == FREE {
+        kind != CONTROL
+    } else {
+        kind == place
+    }
+}
+
+// Whether the entries from 0x0000 to 0x000F are good.
+fn places_good(map: &[u8]) -> bool
+    requires { ⌜ Formed (now map) ⌝ }
+    ensures { λ r. ⌜ r ≡ entriesGood (now (map .entry)) 0 16 ⌝ }
+{
+    let mut good = true;
+    let mut address = 0;
+    while address < 16 {
+        let entry = register_at(map, address);
+        good = good & kind_good(entry) & place_good(address, entry.kind);
+        address += 1;
+    }
+    good
+}
+
+// Whether the entries from 0x0010 on are good: all places there are free.
+fn others_good(map: &[u8]) -> bool
+    requires { ⌜ Formed (now map) ⌝ }
+    ensures { λ r. ⌜ r ≡ entriesGood (now (map .entry)) 16 (countOf (now (map .entry)) - 16) ⌝ }
+{
+    let n = count(map);
+    let mut good = true;
+    let mut address = 16;
+    while address < n {
+        let entry = register_at(map, address);
+        good = good & kind_good(entry) & (entry.kind != CONTROL);
+        address += 1;
+    }
+    good
+}
+
+// Whether the vendor bytes, the product number and the mask of scratch are right.
+fn further_good(map: &[u8]) -> bool
+    requires { ⌜ Formed (now map) ⌝ }
+    ensures { λ r. ⌜ r ≡ every (furtherTests (now (map .entry))) ⌝ }
+{
+    let vendor = b"\x56\x04";
+    let low = register_at(map, 0x0004).default as u16;
+    let high = register_at(map, 0x0005).default as u16;
+    let product = high * 256 + low;
+    (register_at(map, 0x000C).default == vendor[0])
+        & (register_at(map, 0x000D).default == vendor[1])
+        & (product != 0x0000)
+        & (product != 0xFFFF)
+        & (register_at(map, 0x000A).mask == 0xFF)
+}
+
+// Whether a map may be used: 0, or 2 where its form is wrong, or 3 where an entry breaks a rule.
+pub fn map_test(map: &[u8]) -> u8
+    ensures { λ r. ⌜ r ≡ mapNumber (now (map .entry)) ⌝ }
+{
+    if form_good(map) {
+        if places_good(map) & others_good(map) & further_good(map) {
+            return 0;
+        }
+        return 3;
+    }
+    2
+}

@@ -1,0 +1,59 @@
+// The numbers of the reader's two calls: document 01's refusals in their order. Nothing is changed here.
+ghost use mathlib.Core.Path.{_≡_};
+ghost use Rattle.maptest.specs.MapTest.{mapNumber};
+ghost use Rattle.registers.specs.Banks.{banks};
+ghost use Rattle.run.specs.Reading.{world};
+ghost use Rattle.refusals.specs.Numbers.{openNumber, readNumber};
+
+mod room;
+
+use room::room_suffices;
+use room::samples_good;
+use session::Session;
+use soundness::sound;
+
+// The number of opening, by that of the map test: 0, or the refusal.
+pub fn open_refusal(number: u8, map: &[u8], active: &[u8], buffer: &[u8]) -> u8
+    requires { ⌜ number ≡ mapNumber (now map) ⌝ }
+    ensures { λ r. ⌜ r ≡ openNumber (now (map .entry)) (banks (now (active .entry)) (now (buffer .entry))) ⌝ }
+{
+    if number != 0 {
+        return number;
+    }
+    let count = regmap::count(map);
+    if (active.len() == count) & (buffer.len() == count) {
+        return 0;
+    }
+    4
+}
+
+// The number of reading on a good map: 0, or the refusal.
+pub fn read_refusal(
+    map: &[u8],
+    session: Session,
+    active: &[u8],
+    buffer: &[u8],
+    samples: &[u8],
+    room: usize,
+) -> u8
+    requires { ⌜ mapNumber (now map) ≡ 0 ⌝ }
+    ensures { λ r. ⌜ r ≡ readNumber (now (map .entry)) (world session (now (active .entry)) (now (buffer .entry))) (now (samples .entry)) room ⌝ }
+{
+    if !sound(session) {
+        return 1;
+    }
+    let opens = open_refusal(0, map, active, buffer);
+    if opens != 0 {
+        return opens;
+    }
+    if 65536 < samples.len() {
+        return 5;
+    }
+    if !samples_good(samples) {
+        return 5;
+    }
+    if room_suffices(session, samples, room) {
+        return 0;
+    }
+    6
+}

@@ -1,0 +1,57 @@
+// What can be said of samples before any is read: whether they are samples, and whether their records have room.
+ghost use mathlib.Core.Path.{_≡_};
+ghost use mathlib.Core.Bool.{true};
+ghost use Prim.Native.Nat.{_*_, _≤_};
+ghost use lib.Dec.{leb};
+ghost use lib.ListN.{length};
+ghost use Rattle.session.specs.State.{soundSession};
+ghost use Rattle.run.specs.Reading.{recordCount};
+ghost use Rattle.refusals.specs.Numbers.{samplesGood};
+use records::RECORD;
+use run::run_samples;
+use session::Session;
+
+// Whether no sample has any of bits 4 to 7.
+pub fn samples_good(samples: &[u8]) -> bool
+    ensures { λ r. ⌜ r ≡ samplesGood (now (samples .entry)) ⌝ }
+{
+    let mut good = true;
+    let mut i: usize = 0;
+    while i < samples.len() {
+        good = good & (samples[i] <= 15);
+        i += 1;
+    }
+    good
+}
+
+// How many records the samples give: a pass over them with nothing to put, no map and no banks.
+fn count_records(session: Session, samples: &[u8]) -> usize
+    requires { ⌜ (soundSession session ≡ true) × (length (now samples) ≤ 65536) ⌝ }
+    ensures { λ r. ⌜ r ≡ recordCount session (now (samples .entry)) ⌝ }
+{
+    let map = [0u8; 1];
+    let mut active = [0u8; 1];
+    let mut buffer = [0u8; 1];
+    let mut records = [0u8; 1];
+    let passed = run_samples(
+        false,
+        &map,
+        session,
+        &mut active,
+        &mut buffer,
+        samples,
+        &mut records,
+    );
+    passed.size / RECORD
+}
+
+// Whether the records of the samples have room, six bytes each. They are counted only where the room may not suffice.
+pub fn room_suffices(session: Session, samples: &[u8], room: usize) -> bool
+    requires { ⌜ (soundSession session ≡ true) × (length (now samples) ≤ 65536) ⌝ }
+    ensures { λ r. ⌜ r ≡ leb (6 * recordCount session (now (samples .entry))) room ⌝ }
+{
+    if 6 * ((samples.len() + 2) / 3) <= room {
+        return true;
+    }
+    6 * count_records(session, samples) <= room
+}

@@ -1,0 +1,69 @@
+// What a list of samples does, in one pass over them from event to event: the session and the banks that they lead to, and their
+// records, put or only counted.
+ghost use Rattle.registers.specs.Banks.{banks};
+ghost use Rattle.run.specs.Reading.{world};
+ghost use Rattle.run.specs.Contracts.{Passing, Past, Ready, Ran};
+use records::RECORD;
+use records::records_in;
+use records::take_event;
+use session::Event;
+use session::Session;
+use settings::Settings;
+use trace::next_event;
+
+// Where a pass ended: the session, and how many bytes the records have.
+pub struct Passed {
+    pub session: Session,
+    pub size: usize,
+}
+
+// Takes an event, or only counts its record where none is put; the place after it.
+fn pass_event(
+    put: bool,
+    map: &[u8],
+    active: &mut [u8],
+    buffer: &mut [u8],
+    settings: Settings,
+    event: Event,
+    records: &mut [u8],
+    at: usize,
+) -> usize
+    requires { ⌜ Passing put (now map) (banks (now active) (now buffer)) settings event (now records) at ⌝ }
+    ensures { λ r. ⌜ Past put (now (map .entry)) (banks (now (active .entry)) (now (buffer .entry))) settings event (now (records .entry)) at (banks (now (active .exit)) (now (buffer .exit))) (now (records .exit)) r ⌝ }
+{
+    if put {
+        return take_event(map, active, buffer, settings, event, records, at);
+    }
+    at + RECORD * records_in(event)
+}
+
+// Reads samples; or only counts their records where none is put. This is the one hot loop: what it calls has no other caller,
+// so that the compiler can keep the session in registers.
+pub fn run_samples(
+    put: bool,
+    map: &[u8],
+    session: Session,
+    active: &mut [u8],
+    buffer: &mut [u8],
+    samples: &[u8],
+    records: &mut [u8],
+) -> Passed
+    requires { ⌜ Ready put (now map) (world session (now active) (now buffer)) (now samples) (now records) ⌝ }
+    ensures { λ r. ⌜ Ran put (now (map .entry)) (world session (now (active .entry)) (now (buffer .entry))) (now (samples .entry)) (now (records .entry)) (world (r .session) (now (active .exit)) (now (buffer .exit))) (r .size) (now (records .exit)) ⌝ }
+{
+    let mut s = session;
+    let mut at: usize = 0;
+    let mut i: usize = 0;
+    while i < samples.len() {
+        let next = next_event(s, samples, i);
+        let event = next.event;
+        let settings = s.settings;
+        at = pass_event(put, map, active, buffer, settings, event, records, at);
+        s = next.session;
+        i = next.at;
+    }
+    Passed {
+        session: s,
+        size: at,
+    }
+}

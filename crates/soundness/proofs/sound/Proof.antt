@@ -1,0 +1,62 @@
+-- `sound` meets its contract: by the phase, the tests of its list, joined.
+use mathlib.Core.Bool.{true}
+use mathlib.Core.Path.{ap, sym, _∙_}
+use Rattle.bits.specs.Tests.{every}
+use Rattle.bits.proofs.Cases.{joined-every}
+use Rattle.session.specs.declared.Phase.{Phase}
+use Rattle.session.specs.declared.Phase.the-variants.{Rest, Instruction, Data}
+use Rattle.session.specs.State.{soundTests, soundSession}
+use borrow.Author.Needs.{needs}
+use Rattle.soundness.proofs.sound.Statement.{statement}
+use Rattle.soundness.proofs.sound.Tie as tie
+
+enum-told : tie.Need-enum-told
+enum-told c = search needs
+
+enum-told-2 : tie.Need-enum-told-2
+enum-told-2 c = search needs
+
+value-fits-requires : tie.Need-value-fits-requires
+value-fits-requires c κs = search needs
+
+enum-told-3 : tie.Need-enum-told-3
+enum-told-3 c = search needs
+
+value-fits-requires-2 : tie.Need-value-fits-requires-2
+value-fits-requires-2 c κs = search needs
+
+returns : tie.Need-returns
+unfolding soundSession
+returns c =
+    let b = c .before .before .before .before .before .before .before .before .before in
+    let s = b .before .before .args .session in
+    joined-every true (soundTests Rest s) ∙ ap (λ (p : Phase). every (soundTests p s)) (sym (b .enum-told .given .1))
+
+returns-2 : tie.Need-returns-2
+unfolding soundSession
+returns-2 c =
+    let b = c .before .before .before .before .before in
+    let s = b .before .before .args .session in
+    rw (c .before .before .value-fits .ensures)
+    (joined-every true (soundTests Instruction s) ∙ ap (λ (p : Phase). every (soundTests p s)) (sym (b .enum-told2 .given .1)))
+
+returns-3 : tie.Need-returns-3
+unfolding soundSession
+returns-3 c =
+    let b = c .before .before .before .before in
+    let s = b .before .before .args .session in
+    rw (c .before .value-fits2 .ensures)
+    (joined-every true (soundTests Data s) ∙ ap (λ (p : Phase). every (soundTests p s)) (sym (b .enum-told3 .given .1)))
+
+pub sound-spec : {M : Type 1} → statement M
+sound-spec =
+    tie.close
+    (tie.spec
+    enum-told
+    enum-told-2
+    value-fits-requires
+    enum-told-3
+    value-fits-requires-2
+    returns
+    returns-2
+    returns-3)

@@ -1,0 +1,8 @@
+-- Document 01, "Registers and session": the opened session.
+use mathlib.Core.Bool.{false}
+use Rattle.session.specs.declared.Session.{Session}
+use Rattle.session.specs.State.{resting}
+
+-- Opening: at rest, last SCLK low, all settings clear.
+abbrev pub openedSession : Session
+openedSession = resting false (record { lsb = false; ascending = false; sdo = false; single = false; readback = false; slow = false })
