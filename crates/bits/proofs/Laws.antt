@@ -24,7 +24,7 @@ and-half a b = omega (arith, and-step a b)
 and-odd : (a b : ℕ) → bitAnd a b % 2 ≡ min (a % 2) (b % 2)
 and-odd a b = omega (arith, and-step a b)
 
-pub lowest-bit : (x : ℕ) → bitAt x 0 ≡ eqb (x % 2) 1
+lowest-bit : (x : ℕ) → bitAt x 0 ≡ eqb (x % 2) 1
 unfolding bitAt
 lowest-bit x = let e : x / 2 ^ 0 ≡ x = omega arith in ap (λ (k : ℕ). eqb (k % 2) 1) e
 

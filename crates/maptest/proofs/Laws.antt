@@ -49,23 +49,23 @@ module _ (m : List ℕ) (good : mapNumber m ≡ 0) where
   pub good-length : lengthOf m ≡ 3 + 3 * countOf m
   good-length = eqb-true (lengthOf m) (3 + 3 * countOf m) (every-true (formTests m) (passed .0) .1 .0)
 
-  pub good-count : (16 ≤ countOf m) × (countOf m ≤ 8192)
+  good-count : (16 ≤ countOf m) × (countOf m ≤ 8192)
   good-count = let f = formed m (passed .0) in (f .least, f .most)
 
-  pub good-entry : (a : ℕ) → a < countOf m → entryGood m a ≡ true
+  good-entry : (a : ℕ) → a < countOf m → entryGood m a ≡ true
   good-entry a h =
       rw zero-add at
       (entries-each m 0 (countOf m) (and-left (entriesGood m 0 (countOf m)) (every (furtherTests m)) (passed .1)) a h)
 
   -- control exactly at 0x0000, 0x0001 and 0x000F, as a test
-  pub control-exactly : (a : ℕ) → a < countOf m → eqb (registerAt m a .kind) control ≡ (eqb a 0x0000 || (eqb a 0x0001 || eqb a 0x000F))
+  control-exactly : (a : ℕ) → a < countOf m → eqb (registerAt m a .kind) control ≡ (eqb a 0x0000 || (eqb a 0x0001 || eqb a 0x000F))
   unfolding entryGood
   control-exactly a h =
       placed-control a (registerAt m a .kind)
       (and-right (kindRule (registerAt m a)) (placeRule a (registerAt m a .kind)) (good-entry a h))
 
   -- each place that is one of the three holds control
-  pub control-at : (a : ℕ) → a < 16 → (eqb a 0x0000 || (eqb a 0x0001 || eqb a 0x000F)) ≡ true → registerAt m a .kind ≡ control
+  control-at : (a : ℕ) → a < 16 → (eqb a 0x0000 || (eqb a 0x0001 || eqb a 0x000F)) ≡ true → registerAt m a .kind ≡ control
   control-at a l t = eqb-true (registerAt m a .kind) control (control-exactly a (omega (arith, good-count)) ∙ t)
 
   pub control-15 : registerAt m 0x000F .kind ≡ control

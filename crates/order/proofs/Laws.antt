@@ -45,7 +45,7 @@ unfolding byteBits
 length-byte-bits true read lsb p = simp (length-append, length-bits)
 length-byte-bits false read lsb p = length-bits lsb 8 (p .byte)
 
-pub length-run-bits : (single read lsb : Bool) (ps : List RunByte) → length (runBits single read lsb ps) ≡ cond single (24 * length ps) (8 * length ps)
+length-run-bits : (single read lsb : Bool) (ps : List RunByte) → length (runBits single read lsb ps) ≡ cond single (24 * length ps) (8 * length ps)
 unfolding runBits
 length-run-bits true read lsb [] = refl
 length-run-bits false read lsb [] = refl

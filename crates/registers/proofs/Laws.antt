@@ -37,10 +37,10 @@ pub transfer-rule : (m buffer : List ℕ) → Rule (λ a x. cond (eqb (registerA
 unfolding transferFrom
 transfer-rule m buffer = record { none = λ a. refl; one = λ a x l. refl }
 
-pub length-defaults : (m : List ℕ) (k : ℕ) → length (defaultsFrom m 0 k) ≡ k
+length-defaults : (m : List ℕ) (k : ℕ) → length (defaultsFrom m 0 k) ≡ k
 length-defaults m k = rw length-replicate at (length-rest (defaults-rule m) 0 (replicate k 0))
 
-pub length-transfer : (m active buffer : List ℕ) → length (transferFrom m 0 active buffer) ≡ length active
+length-transfer : (m active buffer : List ℕ) → length (transferFrom m 0 active buffer) ≡ length active
 length-transfer m active buffer = length-rest (transfer-rule m buffer) 0 active
 
 pub getD-transfer : (m active buffer : List ℕ) (i : ℕ) → i < length active

@@ -98,7 +98,7 @@ sound-form s h = go (s .phase) refl
         (omega (arith, leb-true (s .bits) 7 (q .1 .0))) (ltb-true (s .value) (2 ^ s .bits) (q .1 .1 .0))
         (omega (arith, leb-true (s .address) 0x7FFF (q .1 .1 .1 .0))))
 
-pub form-instruction : (s : Session) (b : Bool) → s .bits < 16 → s .value < 2 ^ s .bits → Form (withInstructionBit s b)
+form-instruction : (s : Session) (b : Bool) → s .bits < 16 → s .value < 2 ^ s .bits → Form (withInstructionBit s b)
 unfolding withInstructionBit
 form-instruction s b h g =
     each Form (ltb (s .bits) 15)
@@ -111,7 +111,7 @@ form-after s t =
     each Form (s .used .single) (λ e. instructs true _ _ _ _ (lit< tt) (lit< tt))
     (λ e. has-data true _ _ _ _ _ _ (lit< tt) (lit< tt) (next-lt (s .used .ascending) (s .address)))
 
-pub form-data : (s : Session) (b : Bool) → s .bits < 8 → s .value < 2 ^ s .bits → s .address < 0x8000 → Form (withDataBit s b)
+form-data : (s : Session) (b : Bool) → s .bits < 8 → s .value < 2 ^ s .bits → s .address < 0x8000 → Form (withDataBit s b)
 unfolding withDataBit
 form-data s b h g f =
     each Form (ltb (s .bits) 7)

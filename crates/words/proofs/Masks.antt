@@ -71,7 +71,7 @@ module _ (xs : List ℕ) (bytes : (k : ℕ) → getD xs k 0 < 256) where
       let l = lt-of-le-of-lt (and-le-l (getD xs i 0) mask) (bytes i) in
       (omega (arith, f, l), omega (arith, f, l))
 
-  pub same-masked : (mask levels i n : ℕ) → mask < 256 → levels < 256 → bitAnd (wordOf xs i n) (mask * each n) ≡ levels * each n
+  same-masked : (mask levels i n : ℕ) → mask < 256 → levels < 256 → bitAnd (wordOf xs i n) (mask * each n) ≡ levels * each n
       → (k : ℕ) → k < n → bitAnd (getD xs (i + k) 0) mask ≡ levels
   same-masked mask levels i zero hm hl e k h = absurd (omega arith)
   same-masked mask levels i (suc n) hm hl e zero h =
