@@ -1,4 +1,4 @@
--- Texts as bytes, and digits.
+-- Document 01, "The bench program": texts as bytes, and capital hex digits.
 use Prim.Native.Nat.{ℕ, _+_, _-_}
 use Prim.Native.Char.{code}
 use Prim.Native.String.{String}

@@ -1,4 +1,4 @@
--- Numbers as text, in decimal.
+-- Document 01, "The bench program": numbers as text, in decimal.
 use Prim.Native.Nat.{ℕ, zero, suc, _/_, _%_}
 use mathlib.Core.Bool.{cond}
 use mathlib.Core.List.{List, [], _∷_, _++_}

@@ -1,4 +1,5 @@
--- What a list of samples does: the session and the banks after it, and its records in order of time.
+-- Document 01, "Samples and edges" and "Records": what a list of samples does, the session and the banks after it, and its records
+-- in order of time.
 use Prim.Native.Nat.{ℕ, _+_}
 use mathlib.Core.List.{List, [], _∷_, _++_}
 use Rattle.session.specs.declared.Session.{Session}
