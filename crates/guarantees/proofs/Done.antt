@@ -7,6 +7,7 @@ use native.Mathlib.Omega.{arith}
 use lib.Dec.{leb}
 use lib.ListN.{length}
 use borrow.Author.Tests.{le-leb, eq-eqb}
+use Rattle.sizes.specs.Sizes.{recordSize}
 use Rattle.bits.proofs.Cases.{and-left, and-right}
 use Rattle.regmap.specs.Format.{countOf}
 use Rattle.maptest.specs.MapTest.{mapNumber}
@@ -47,7 +48,7 @@ mapped-fits m b h =
 -- the reader gives no number: a call is done on its conditions
 pub no-refusal :
     (m : List ℕ) (w : World) (xs : List ℕ) (room : ℕ) → mapNumber m ≡ 0 → Sound m w → samplesGood xs ≡ true
-    → length xs ≤ 65536 → 6 * recordCount (w .session) xs ≤ room → readNumber m w xs room ≡ 0
+    → length xs ≤ 65536 → recordSize * recordCount (w .session) xs ≤ room → readNumber m w xs room ≡ 0
 unfolding readNumber
 no-refusal m w xs room good h fine few enough =
     rw (
@@ -56,7 +57,7 @@ no-refusal m w xs room good h fine few enough =
       mapped-fits m (w .banks) (h .mapped),
       fine,
       le-leb (length xs) 65536 few,
-      le-leb (6 * recordCount (w .session) xs) room enough,
+      le-leb (recordSize * recordCount (w .session) xs) room enough,
     )
 
 -- a session at rest, with its banks

@@ -6,6 +6,7 @@ use mathlib.Core.List.{List, [], _∷_, _++_, append-nil}
 use native.Mathlib.Omega.{arith}
 use lib.ListN.{length, take, drop, replicate, length-append, length-take, length-replicate, take-append-drop}
 use borrow.Author.Tests.{le-leb}
+use Rattle.sizes.specs.Sizes.{recordSize}
 use Rattle.run.specs.Reading.{World, recordCount}
 use Rattle.refusals.specs.Numbers.{samplesGood, readNumber}
 use Rattle.reader.specs.Calls.{readOf}
@@ -79,7 +80,7 @@ lists-exist m w o room s raise run = record {
     after = outcomeOf m w badCall .world
 
     size : ℕ
-    size = 6 * recordCount (after .session) samples
+    size = recordSize * recordCount (after .session) samples
 
     whole : Call
     whole = record { samples = samples; records = replicate size 0 }

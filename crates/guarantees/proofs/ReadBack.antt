@@ -8,6 +8,7 @@ use lib.ListN.{length, take, length-map}
 use lib.Seq.{take-length}
 use Rattle.bits.specs.Bits.{bitAt}
 use Rattle.bits.specs.Buffer.{filled}
+use Rattle.sizes.specs.Sizes.{recordSize}
 use Rattle.settings.specs.declared.Settings.{Settings}
 use Rattle.session.specs.declared.Session.{Session}
 use Rattle.session.specs.State.{resting}
@@ -126,7 +127,7 @@ module _ (m : List ℕ) (w : World) (o : Order) (room : ℕ) (rest : AtRest m w 
       ∙ ap (recordsBy m (w .banks) (w .session .settings)) run-whole
       ∙ records-left m (isRead o) (w .banks) (w .session .settings) (runBytes o)
 
-  not-refused : (size : ℕ) → 6 * o .count ≤ size → readNumber m w (samplesOf o) size ≡ 0
+  not-refused : (size : ℕ) → recordSize * o .count ≤ size → readNumber m w (samplesOf o) size ≡ 0
   not-refused size enough =
       no-refusal m w (samplesOf o) size (rest .good-map) (rest-sound m w o rest) (good-samples o)
       (omega (arith, few-samples o room accepted)) (omega (arith, count-end))

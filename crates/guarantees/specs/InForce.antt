@@ -6,6 +6,7 @@ use mathlib.Core.List.{List, [], _∷_, _++_}
 use lib.ListN.{length, getD, take}
 use lib.Dec.{eqb}
 use Rattle.bits.specs.Bits.{bitAt}
+use Rattle.sizes.specs.Sizes.{recordSize}
 use Rattle.regmap.specs.declared.Entry.{Entry}
 use Rattle.regmap.specs.Format.{registerAt, buffered}
 use Rattle.registers.specs.Banks.{Banks}
@@ -65,7 +66,7 @@ NextDone =
     (m : List ℕ) (w : World) (o : Order) (room s raise : ℕ) (calls : List Call) (next rest records : List ℕ)
     → Run m w o room raise
     → joined m w calls ++ (next ++ rest) ≡ stoppedSamples o s raise
-    → 6 * recordCount (afterCalls m w calls .session) next ≤ length records
+    → recordSize * recordCount (afterCalls m w calls .session) next ≤ length records
     → isDone m (afterCalls m w calls) (record { samples = next; records = records }) ≡ true
 
 -- a list of calls for a run stopped after s samples, the first of which is refused

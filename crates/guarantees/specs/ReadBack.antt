@@ -5,6 +5,7 @@ use mathlib.Core.Bool.{Bool, cond, false}
 use mathlib.Core.List.{List, [], _∷_, _++_}
 use lib.ListN.{length}
 use Rattle.bits.specs.Buffer.{filled}
+use Rattle.sizes.specs.Sizes.{recordSize}
 use Rattle.settings.specs.declared.Settings.{Settings}
 use Rattle.settings.specs.Settings.{settingsAfter}
 use Rattle.session.specs.declared.Event.the-variants.{Whole}
@@ -57,5 +58,5 @@ readBackOf m w o records = record {
 abbrev pub ReadBack : Type 0
 ReadBack =
     (m : List ℕ) (o : Order) (room : ℕ) (w : World) (records : List ℕ)
-    → AtRest m w o → Accepted o room → 6 * o .count ≤ length records
+    → AtRest m w o → Accepted o room → recordSize * o .count ≤ length records
     → readOf m w (samplesOf o) records ≡ readBackOf m w o records

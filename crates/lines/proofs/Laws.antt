@@ -5,7 +5,7 @@ use Prim.Native.Nat.{ℕ, zero, suc, _+_, _<_}
 use native.Mathlib.Omega.{arith}
 use native.Mathlib.Nat.{add-zero, add-suc, suc-add}
 use lib.ListN.{length, getD}
-use Rattle.lines.specs.Line.{lineOf}
+use Rattle.lines.specs.Line.{lineSize, lineOf}
 
 -- a rule at k places, from i on
 abbrev pub tabled : (ℕ → ℕ) → ℕ → ℕ → List ℕ
@@ -18,6 +18,6 @@ entry-tabled f zero i d h = absurd (omega arith)
 entry-tabled f (suc k) i zero h = rw add-zero
 entry-tabled f (suc k) i (suc d) h = rw (add-suc, ← suc-add) (entry-tabled f k (suc i) d (omega arith))
 
-pub line-length : (r : List ℕ) → length (lineOf r) ≡ 15
+pub line-length : (r : List ℕ) → length (lineOf r) ≡ lineSize
 unfolding lineOf
 line-length r = refl

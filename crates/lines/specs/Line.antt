@@ -15,6 +15,10 @@ hexOf x = digitOf (x / 16) ∷ digitOf (x % 16) ∷ []
 abbrev pub letterOf : ℕ → ℕ
 letterOf kind = cond (eqb kind 1) (code "W") (cond (eqb kind 2) (code "R") (code "C"))
 
+-- the bytes of a line
+abbrev pub lineSize : ℕ
+lineSize = 15
+
 -- byte i of a record
 abbrev pub byteOf : List ℕ → ℕ → ℕ
 byteOf r i = getD r i 0

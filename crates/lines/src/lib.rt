@@ -2,6 +2,7 @@
 ghost use mathlib.Core.Path.{_≡_};
 ghost use Prim.Native.Nat.{_<_, _≤_};
 ghost use lib.ListN.{length};
+ghost use Rattle.sizes.specs.Sizes.{recordSize};
 ghost use Rattle.lines.specs.Text.{digitOf};
 ghost use Rattle.lines.specs.Line.{letterOf, lineOf};
 
@@ -34,7 +35,7 @@ fn letter(kind: u8) -> u8
 
 // The line of the record at the start of a slice.
 pub fn line_of(bytes: &[u8]) -> [u8; LINE]
-    requires { ⌜ 6 ≤ length (now bytes) ⌝ }
+    requires { ⌜ recordSize ≤ length (now bytes) ⌝ }
     ensures { λ r. ⌜ r ≡ lineOf (now (bytes .entry)) ⌝ }
 {
     let high = bytes[1];

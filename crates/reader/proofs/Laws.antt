@@ -9,6 +9,7 @@ use lib.Dec.{eqb, leb}
 use lib.ListN.{length}
 use borrow.Author.Tests.{eq-eqb, ne-eqb, leb-true}
 use Rattle.bits.proofs.Cases.{yes, no, and-left}
+use Rattle.sizes.specs.Sizes.{recordSize}
 use Rattle.maptest.specs.MapTest.{mapNumber}
 use Rattle.session.specs.declared.Session.{Session}
 use Rattle.soundness.specs.Opened.{openedSession}
@@ -48,7 +49,7 @@ read-ready m w xs records n e z =
       sound = t .sound;
       few = leb-true (length xs) 65536 (and-left (leb (length xs) 65536) (samplesGood xs) (t .samples));
       mapped = λ p. fits-mapped m (w .banks) (t .good-map) (t .fits);
-      room = λ p. omega (arith, records-size m xs w, leb-true (6 * recordCount (w .session) xs) (length records) (t .enough));
+      room = λ p. omega (arith, records-size m xs w, leb-true (recordSize * recordCount (w .session) xs) (length records) (t .enough));
     }
 
 -- a call that is refused leaves all as it was
@@ -61,8 +62,8 @@ read-refused m w xs records n e z =
 -- a call that is done leaves what the pass over the samples gave
 pub read-done : (m : List ℕ) (w : World) (xs records : List ℕ) (n : ℕ) → n ≡ readNumber m w xs (length records) → n ≡ 0
     → (after : World) (size : ℕ) (new : List ℕ) → Done m w xs records after size new
-    → outcome 0 after (size / 6) new ≡ readOf m w xs records
+    → outcome 0 after (size / recordSize) new ≡ readOf m w xs records
 unfolding readOf
 read-done m w xs records n e z after size new d =
-    let count : size / 6 ≡ recordCount (w .session) xs = omega (arith, d .size-is, records-size m xs w) in
+    let count : size / recordSize ≡ recordCount (w .session) xs = omega (arith, d .size-is, records-size m xs w) in
     yes _ (eq-eqb (readNumber m w xs (length records)) 0 (sym e ∙ z)) (rw (d .world-after, d .records-after, count))

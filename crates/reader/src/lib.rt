@@ -12,6 +12,7 @@ use refusals::open_refusal;
 use refusals::read_refusal;
 use run::run_samples;
 use session::Session;
+use sizes::RECORD;
 use soundness::opened;
 use soundness::sound;
 
@@ -69,11 +70,11 @@ pub fn read_tested(
     Answer {
         number: 0,
         session: next,
-        count: done.size / 6,
+        count: done.size / RECORD,
     }
 }
 
-// Reads samples: the session and the banks that they lead to, and their records, six bytes each, from the buffer's start.
+// Reads samples: the session and the banks that they lead to, and their records, from the buffer's start.
 pub fn read(
     map: &[u8],
     session: Session,

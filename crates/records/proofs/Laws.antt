@@ -4,6 +4,7 @@ use mathlib.Core.List.{List}
 use Prim.Native.Nat.{ℕ, _+_, _*_}
 use lib.ListN.{length}
 use Rattle.bits.proofs.Cases.{each}
+use Rattle.sizes.specs.Sizes.{recordSize}
 use Rattle.settings.specs.declared.Settings.{Settings}
 use Rattle.session.specs.declared.Event.{Event}
 use Rattle.session.specs.declared.Event.the-variants.{Nothing, Whole, Aborted}
@@ -20,14 +21,14 @@ mapped-after m b Nothing h = h
 mapped-after m b (Whole read a v) h = each (Mapped m) read (λ e. h) (λ e. mapped-write h a v)
 mapped-after m b (Aborted a bits d) h = h
 
--- a record has six bytes
-pub six : (m : List ℕ) (b : Banks) (t : Settings) (e : Event) → length (recordOf m b t e) ≡ 6 * recordsIn e
+-- how many bytes the records of an event have
+pub record-size : (m : List ℕ) (b : Banks) (t : Settings) (e : Event) → length (recordOf m b t e) ≡ recordSize * recordsIn e
 unfolding recordOf
-six m b t Nothing = refl
-six m b t (Whole read a v) = each (λ (l : List ℕ). length l ≡ 6) read (λ e. refl) (λ e. refl)
-six m b t (Aborted a bits d) = refl
+record-size m b t Nothing = refl
+record-size m b t (Whole read a v) = each (λ (l : List ℕ). length l ≡ recordSize) read (λ e. refl) (λ e. refl)
+record-size m b t (Aborted a bits d) = refl
 
 -- so the place after an event that is taken is known without its record
 pub place-after : {m : List ℕ} {b : Banks} {t : Settings} {e : Event} {old : List ℕ} {at : ℕ} {after : Banks} {new : List ℕ} {next : ℕ}
-    → Taken m b t e old at after new next → next ≡ at + 6 * recordsIn e
-place-after {m} {b} {t} {e} {at = at} a = a .next-place ∙ ap (λ (n : ℕ). at + n) (six m b t e)
+    → Taken m b t e old at after new next → next ≡ at + recordSize * recordsIn e
+place-after {m} {b} {t} {e} {at = at} a = a .next-place ∙ ap (λ (n : ℕ). at + n) (record-size m b t e)

@@ -1,4 +1,4 @@
--- Document 01, "Records": six bytes for each event.
+-- Document 01, "Records": the bytes of each event.
 use Prim.Native.Nat.{ℕ, _/_, _%_}
 use mathlib.Core.Bool.{Bool, cond}
 use mathlib.Core.List.{List, [], _∷_}

@@ -1,17 +1,16 @@
-// What an event does to the banks, and the six bytes that it is recorded as.
+// What an event does to the banks, and the bytes that it is recorded as.
 ghost use mathlib.Core.Path.{_≡_};
 ghost use Prim.Native.Nat.{_+_, _≤_};
 ghost use lib.ListN.{length};
 ghost use lib.Seq.{sets};
+ghost use Rattle.sizes.specs.Sizes.{recordSize};
 ghost use Rattle.registers.specs.Banks.{banks};
 ghost use Rattle.records.specs.Records.{recordsIn, recordBytes, writeRecord, readRecord, abortRecord};
 ghost use Rattle.records.specs.Contracts.{Taking, Taken};
 use session::Event;
 use settings::Settings;
+use sizes::RECORD;
 use writing::Written;
-
-// How many bytes a record has.
-pub const RECORD: usize = 6;
 
 const WRITE: u8 = 1;
 
@@ -48,7 +47,7 @@ fn put_record(
     fourth: u8,
     fifth: u8,
 )
-    requires { ⌜ at + 6 ≤ length (now records) ⌝ }
+    requires { ⌜ at + recordSize ≤ length (now records) ⌝ }
     ensures { λ r. ⌜ now (records .exit) ≡ sets (now (records .entry)) at (recordBytes kind address third fourth fifth) ⌝ }
 {
     records[at] = kind;
@@ -61,7 +60,7 @@ fn put_record(
 
 // Puts the record of a write at a place: the byte written, and what the write answered.
 fn put_write(records: &mut [u8], at: usize, address: u16, byte: u8, written: Written)
-    requires { ⌜ at + 6 ≤ length (now records) ⌝ }
+    requires { ⌜ at + recordSize ≤ length (now records) ⌝ }
     ensures { λ r. ⌜ now (records .exit) ≡ sets (now (records .entry)) at (writeRecord address byte written) ⌝ }
 {
     put_record(
@@ -77,7 +76,7 @@ fn put_write(records: &mut [u8], at: usize, address: u16, byte: u8, written: Wri
 
 // Puts the record of a read at a place: the due byte, the byte on the line, and whether they differ.
 fn put_read(records: &mut [u8], at: usize, address: u16, due: u8, line: u8)
-    requires { ⌜ at + 6 ≤ length (now records) ⌝ }
+    requires { ⌜ at + recordSize ≤ length (now records) ⌝ }
     ensures { λ r. ⌜ now (records .exit) ≡ sets (now (records .entry)) at (readRecord address due line) ⌝ }
 {
     if due == line {
@@ -89,7 +88,7 @@ fn put_read(records: &mut [u8], at: usize, address: u16, due: u8, line: u8)
 
 // Puts the record of an abort at a place.
 fn put_abort(records: &mut [u8], at: usize, address: u16, bits: u8, in_data: bool)
-    requires { ⌜ at + 6 ≤ length (now records) ⌝ }
+    requires { ⌜ at + recordSize ≤ length (now records) ⌝ }
     ensures { λ r. ⌜ now (records .exit) ≡ sets (now (records .entry)) at (abortRecord address bits «in_data») ⌝ }
 {
     if in_data {

@@ -10,6 +10,7 @@ use lib.ListN.{length}
 use borrow.Author.Tests.{eq-eqb, ne-eqb, eqb-true, lt-leb, le-leb}
 use Rattle.bits.specs.Tests.{unless}
 use Rattle.bits.proofs.Cases.{yes, no, and-left, and-right}
+use Rattle.sizes.specs.Sizes.{recordSize}
 use Rattle.regmap.specs.Format.{countOf}
 use Rattle.maptest.specs.MapTest.{mapNumber}
 use Rattle.maptest.proofs.Laws.{good-form, map-number-most}
@@ -70,14 +71,14 @@ open-number-most m b =
     (λ t. omega arith))
 
 -- where the room suffices, number 6 is not given
-pub read-number-most : (m : List ℕ) (w : World) (xs : List ℕ) (room : ℕ) → 6 * recordCount (w .session) xs ≤ room → readNumber m w xs room ≤ 5
+pub read-number-most : (m : List ℕ) (w : World) (xs : List ℕ) (room : ℕ) → recordSize * recordCount (w .session) xs ≤ room → readNumber m w xs room ≤ 5
 unfolding readNumber
 read-number-most m w xs room enough =
     bounded (soundSession (w .session)) (omega arith)
     (λ t. bounded (eqb (mapNumber m) 0) (omega (arith, map-number-most m))
     (λ t. bounded (banksFit m (w .banks)) (omega arith)
     (λ t. bounded (leb (length xs) 65536 && samplesGood xs) (omega arith)
-    (λ t. rw (le-leb (6 * recordCount (w .session) xs) room enough) (omega arith)))))
+    (λ t. rw (le-leb (recordSize * recordCount (w .session) xs) room enough) (omega arith)))))
 
 -- what number 0 says: each test of the reader holds
 pub record ReadTests (m : List ℕ) (w : World) (xs : List ℕ) (room : ℕ) : Type 0 where
@@ -85,7 +86,7 @@ pub record ReadTests (m : List ℕ) (w : World) (xs : List ℕ) (room : ℕ) : T
   pub good-map : mapNumber m ≡ 0
   pub fits : banksFit m (w .banks) ≡ true
   pub samples : (leb (length xs) 65536 && samplesGood xs) ≡ true
-  pub enough : leb (6 * recordCount (w .session) xs) room ≡ true
+  pub enough : leb (recordSize * recordCount (w .session) xs) room ≡ true
 
 pub read-tests : (m : List ℕ) (w : World) (xs : List ℕ) (room : ℕ) → readNumber m w xs room ≡ 0 → ReadTests m w xs room
 unfolding readNumber
@@ -94,7 +95,7 @@ read-tests m w xs room e =
     let two = passed-map (mapNumber m) _ (one .1) in
     let four = passed (banksFit m (w .banks)) 4 _ (λ q. omega arith) (two .1) in
     let five = passed (leb (length xs) 65536 && samplesGood xs) 5 _ (λ q. omega arith) (four .1) in
-    let six = passed (leb (6 * recordCount (w .session) xs) room) 6 _ (λ q. omega arith) (five .1) in
+    let six = passed (leb (recordSize * recordCount (w .session) xs) room) 6 _ (λ q. omega arith) (five .1) in
     record { sound = one .0; good-map = two .0; fits = four .0; samples = five .0; enough = six .0 }
 
 module _ (m : List ℕ) (b : Banks) (n : ℕ) (given : n ≡ mapNumber m) where
@@ -128,7 +129,7 @@ module _ (m : List ℕ) (w : World) (xs : List ℕ) (room : ℕ) where
     module _ (fits : openNumber m (w .banks) ≡ 0) where
       -- only the samples and the room are left to test
       samples-next : (n : ℕ)
-          → n ≡ unless (leb (length xs) 65536 && samplesGood xs) 5 (unless (leb (6 * recordCount (w .session) xs) room) 6 0)
+          → n ≡ unless (leb (length xs) 65536 && samplesGood xs) 5 (unless (leb (recordSize * recordCount (w .session) xs) room) 6 0)
           → n ≡ readNumber m w xs room
       unfolding readNumber
       samples-next n e =
@@ -147,12 +148,12 @@ module _ (m : List ℕ) (w : World) (xs : List ℕ) (room : ℕ) where
             samples-next 5 (no _ t refl)
 
         -- only the room is left to test
-        room-next : good ≡ true → (n : ℕ) → n ≡ unless (leb (6 * recordCount (w .session) xs) room) 6 0 → n ≡ readNumber m w xs room
+        room-next : good ≡ true → (n : ℕ) → n ≡ unless (leb (recordSize * recordCount (w .session) xs) room) 6 0 → n ≡ readNumber m w xs room
         room-next e n q =
             let t : (leb (length xs) 65536 && samplesGood xs) ≡ true = rw (le-leb (length xs) 65536 few) (sym looked ∙ e) in
             samples-next n (yes _ t q)
 
-        module _ (all-good : good ≡ true) (enough : Bool) (counted : enough ≡ leb (6 * recordCount (w .session) xs) room) where
+        module _ (all-good : good ≡ true) (enough : Bool) (counted : enough ≡ leb (recordSize * recordCount (w .session) xs) room) where
           pub room-found : enough ≡ true → 0 ≡ readNumber m w xs room
           room-found e = room-next all-good 0 (yes _ (sym counted ∙ e) refl)
 

@@ -5,6 +5,7 @@ use mathlib.Core.List.{List, [], _∷_}
 use lib.ListN.{length}
 use lib.Dec.{eqb, leb}
 use Rattle.bits.specs.Tests.{unless}
+use Rattle.sizes.specs.Sizes.{recordSize}
 use Rattle.regmap.specs.Format.{countOf}
 use Rattle.maptest.specs.MapTest.{mapNumber}
 use Rattle.session.specs.State.{soundSession}
@@ -27,12 +28,12 @@ unfoldable pub samplesGood : List ℕ → Bool
 samplesGood [] = true
 samplesGood (x ∷ xs) = leb x 15 && samplesGood xs
 
--- The number of the reader: the lowest that applies. The records need six bytes each.
+-- The number of the reader: the lowest that applies. Number 6 counts the size of a record for each.
 unfoldable pub readNumber : List ℕ → World → List ℕ → ℕ → ℕ
 readNumber m w samples room =
     unless (soundSession (w .session)) 1
     (unless (eqb (mapNumber m) 0) (mapNumber m)
     (unless (banksFit m (w .banks)) 4
     (unless (leb (length samples) 65536 && samplesGood samples) 5
-    (unless (leb (6 * recordCount (w .session) samples) room) 6
+    (unless (leb (recordSize * recordCount (w .session) samples) room) 6
     0))))

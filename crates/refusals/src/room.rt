@@ -4,12 +4,13 @@ ghost use mathlib.Core.Bool.{true};
 ghost use Prim.Native.Nat.{_*_, _≤_};
 ghost use lib.Dec.{leb};
 ghost use lib.ListN.{length};
+ghost use Rattle.sizes.specs.Sizes.{recordSize};
 ghost use Rattle.session.specs.State.{soundSession};
 ghost use Rattle.run.specs.Reading.{recordCount};
 ghost use Rattle.refusals.specs.Numbers.{samplesGood};
-use records::RECORD;
 use run::run_samples;
 use session::Session;
+use sizes::RECORD;
 
 // Whether no sample has any of bits 4 to 7.
 pub fn samples_good(samples: &[u8]) -> bool
@@ -45,13 +46,13 @@ fn count_records(session: Session, samples: &[u8]) -> usize
     passed.size / RECORD
 }
 
-// Whether the records of the samples have room, six bytes each. They are counted only where the room may not suffice.
+// Whether the records of the samples have room. They are counted only where the room may not suffice.
 pub fn room_suffices(session: Session, samples: &[u8], room: usize) -> bool
     requires { ⌜ (soundSession session ≡ true) × (length (now samples) ≤ 65536) ⌝ }
-    ensures { λ r. ⌜ r ≡ leb (6 * recordCount session (now (samples .entry))) room ⌝ }
+    ensures { λ r. ⌜ r ≡ leb (recordSize * recordCount session (now (samples .entry))) room ⌝ }
 {
-    if 6 * ((samples.len() + 2) / 3) <= room {
+    if RECORD * ((samples.len() + 2) / 3) <= room {
         return true;
     }
-    6 * count_records(session, samples) <= room
+    RECORD * count_records(session, samples) <= room
 }

@@ -12,8 +12,9 @@ use borrow.Author.Tests.{eq-eqb, ne-eqb, lt-ltb}
 use Rattle.io.specs.Digits.{digits, glyph, Fewest}
 use Rattle.bits.proofs.Buffer.{sets-append, sets-filled}
 use Rattle.bits.proofs.Cases.{each}
+use Rattle.sizes.specs.Sizes.{recordSize}
 use Rattle.lines.specs.Text.{bytesOf, digitOf}
-use Rattle.lines.specs.Line.{lineOf}
+use Rattle.lines.specs.Line.{lineSize, lineOf}
 use Rattle.lines.proofs.Laws.{line-length}
 use Rattle.report.specs.Numbers.{decimalIn, decimalOf}
 use Rattle.report.specs.Text.{linesOf, countLine}
@@ -59,16 +60,16 @@ placed-printed {line} {old} {new} {n} h p = record {
 pub from-on : (l : List ℕ) (i : ℕ) → take (length l - i) (drop i l) ≡ drop i l
 from-on l i = take-all (length l - i) (drop i l) (omega (arith, length-drop i l))
 
-lines-length : (n : ℕ) (records : List ℕ) → length (linesOf n records) ≡ n * 15
+lines-length : (n : ℕ) (records : List ℕ) → length (linesOf n records) ≡ n * lineSize
 unfolding linesOf
 lines-length zero records = refl
-lines-length (suc n) records = simp length-append (omega (arith, line-length records, lines-length n (drop 6 records)))
+lines-length (suc n) records = simp length-append (omega (arith, line-length records, lines-length n (drop recordSize records)))
 
 -- n of `all` lines are put: those of the records that are left, from there on, would make the buffer what it is to be
 pub record Listing (records old new : List ℕ) (all n : ℕ) : Type 0 where
   pub within : n ≤ all
   pub same : length new ≡ length old
-  pub rest : sets new (n * 15) (linesOf (all - n) (drop (n * 6) records)) ≡ sets old 0 (linesOf all records)
+  pub rest : sets new (n * lineSize) (linesOf (all - n) (drop (n * recordSize) records)) ≡ sets old 0 (linesOf all records)
 
 pub begun : (records old : List ℕ) (all : ℕ) → Listing records old old all 0
 begun records old all = record { within = omega arith; same = refl; rest = rw (ap (λ (k : ℕ). linesOf k records) e) }
@@ -77,40 +78,40 @@ begun records old all = record { within = omega arith; same = refl; rest = rw (a
     e = omega arith
 
 module _ {records old new : List ℕ} {all n : ℕ} (k : Listing records old new all n) where
-  pub turned : n < all → Listing records old (sets new (n * 15) (lineOf (drop (n * 6) records))) all (n + 1)
+  pub turned : n < all → Listing records old (sets new (n * lineSize) (lineOf (drop (n * recordSize) records))) all (n + 1)
   unfolding linesOf
   turned h = record {
     within = omega arith;
-    same = length-sets new (n * 15) (lineOf (drop (n * 6) records)) ∙ k .same;
+    same = length-sets new (n * lineSize) (lineOf (drop (n * recordSize) records)) ∙ k .same;
     rest =
-        ap (λ (i : ℕ). sets (sets new (n * 15) first) i (linesOf (all - (n + 1)) (drop ((n + 1) * 6) records))) place
-        ∙ ap (λ (l : List ℕ). sets (sets new (n * 15) first) (n * 15 + length first) (linesOf (all - (n + 1)) l)) left
-        ∙ sym (sets-append first _ new (n * 15))
-        ∙ ap (λ (j : ℕ). sets new (n * 15) (linesOf j (drop (n * 6) records))) one
+        ap (λ (i : ℕ). sets (sets new (n * lineSize) first) i (linesOf (all - (n + 1)) (drop ((n + 1) * recordSize) records))) place
+        ∙ ap (λ (l : List ℕ). sets (sets new (n * lineSize) first) (n * lineSize + length first) (linesOf (all - (n + 1)) l)) left
+        ∙ sym (sets-append first _ new (n * lineSize))
+        ∙ ap (λ (j : ℕ). sets new (n * lineSize) (linesOf j (drop (n * recordSize) records))) one
         ∙ k .rest;
   }
     where
       first : List ℕ
-      first = lineOf (drop (n * 6) records)
+      first = lineOf (drop (n * recordSize) records)
 
-      place : (n + 1) * 15 ≡ n * 15 + length (lineOf (drop (n * 6) records))
-      place = omega (arith, line-length (drop (n * 6) records))
+      place : (n + 1) * lineSize ≡ n * lineSize + length (lineOf (drop (n * recordSize) records))
+      place = omega (arith, line-length (drop (n * recordSize) records))
 
-      six : (n + 1) * 6 ≡ n * 6 + 6
-      six = omega arith
+      one-record : (n + 1) * recordSize ≡ n * recordSize + recordSize
+      one-record = omega arith
 
-      left : drop ((n + 1) * 6) records ≡ drop 6 (drop (n * 6) records)
-      left = ap (λ (i : ℕ). drop i records) six ∙ sym (drop-drop 6 (n * 6) records)
+      left : drop ((n + 1) * recordSize) records ≡ drop recordSize (drop (n * recordSize) records)
+      left = ap (λ (i : ℕ). drop i records) one-record ∙ sym (drop-drop recordSize (n * recordSize) records)
 
       one : suc (all - (n + 1)) ≡ all - n
       one = omega arith
 
-  pub ended : all ≤ n → all ≡ min (length records / 6) (length old / 15) → Listed records old new all
+  pub ended : all ≤ n → all ≡ min (length records / recordSize) (length old / lineSize) → Listed records old new all
   unfolding linesOf
   ended h e = record {
     lines = e;
     buffer =
-        sym (ap (λ (j : ℕ). sets new (n * 15) (linesOf j (drop (n * 6) records))) none)
+        sym (ap (λ (j : ℕ). sets new (n * lineSize) (linesOf j (drop (n * recordSize) records))) none)
         ∙ k .rest
         ∙ sets-filled (linesOf all records) old (omega (arith, lines-length all records));
   }

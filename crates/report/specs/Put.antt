@@ -6,6 +6,8 @@ use lib.ListN.{length}
 use lib.Seq.{sets}
 use Rattle.io.specs.Counts.{Counts}
 use Rattle.bits.specs.Buffer.{filled}
+use Rattle.sizes.specs.Sizes.{recordSize}
+use Rattle.lines.specs.Line.{lineSize}
 use Rattle.report.specs.Text.{linesOf}
 
 -- bytes at a place of the buffer, and the place after them
@@ -19,7 +21,7 @@ pub record Printed (line old new : List ℕ) (count : ℕ) : Type 0 where
   pub buffer : new ≡ filled line old
   pub within : Counts count new
 
--- the lines of as many records as there are and as fit, 15 bytes each, at the start of the buffer
+-- the lines of as many records as there are and as fit, at the start of the buffer
 pub record Listed (records old new : List ℕ) (count : ℕ) : Type 0 where
-  pub lines : count ≡ min (length records / 6) (length old / 15)
+  pub lines : count ≡ min (length records / recordSize) (length old / lineSize)
   pub buffer : new ≡ filled (linesOf count records) old

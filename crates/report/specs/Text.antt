@@ -2,14 +2,15 @@
 use Prim.Native.Nat.{ℕ, zero, suc}
 use mathlib.Core.List.{List, [], _++_}
 use lib.ListN.{drop}
+use Rattle.sizes.specs.Sizes.{recordSize}
 use Rattle.lines.specs.Text.{bytesOf}
 use Rattle.lines.specs.Line.{lineOf}
 use Rattle.report.specs.Numbers.{decimalOf}
 
--- the lines of n records, which are six bytes each
+-- the lines of n records, one after another
 unfoldable pub linesOf : ℕ → List ℕ → List ℕ
 linesOf zero records = []
-linesOf (suc n) records = lineOf records ++ linesOf n (drop 6 records)
+linesOf (suc n) records = lineOf records ++ linesOf n (drop recordSize records)
 
 -- the first line, with the number of registers
 unfoldable pub mapLine : ℕ → List ℕ

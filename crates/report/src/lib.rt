@@ -7,9 +7,7 @@ ghost use Rattle.report.specs.Numbers.{decimalOf};
 ghost use Rattle.report.specs.Text.{mapLine, countLine, refusedLine};
 ghost use Rattle.report.specs.Put.{Placed, Printed, Listed};
 use lines::LINE;
-
-// The bytes of a record.
-const RECORD: usize = 6;
+use sizes::RECORD;
 
 // The lines of as many records as there are and as fit; how many that is.
 pub fn put_lines(records: &[u8], out: &mut [u8]) -> usize

@@ -9,6 +9,7 @@ use native.Mathlib.Nat.{zero-add, add-zero}
 use lib.ListN.{length, getD, drop, drop-of-length-le, length-append}
 use lib.Seq.{drop-cons, sets, sets-eq, length-sets}
 use Rattle.bits.proofs.Buffer.{sets-append}
+use Rattle.sizes.specs.Sizes.{recordSize}
 use Rattle.settings.specs.declared.Settings.{Settings}
 use Rattle.session.specs.declared.Session.{Session}
 use Rattle.session.specs.declared.Event.{Event}
@@ -22,7 +23,7 @@ use Rattle.registers.specs.Banks.{Banks, banks, Mapped}
 use Rattle.records.specs.BanksAfter.{banksAfter}
 use Rattle.records.specs.Records.{recordOf}
 use Rattle.records.specs.Contracts.{Taking, Taken}
-use Rattle.records.proofs.Laws.{mapped-after, six}
+use Rattle.records.proofs.Laws.{mapped-after, record-size}
 use Rattle.run.specs.Reading.{World, world, worldAfter, runOf, recordsOf, recordCount}
 use Rattle.run.specs.Contracts.{Ready, Done}
 
@@ -132,9 +133,9 @@ again {m} {act = act} {buf} {new = new} {n} {e = e} k (one q h) act′ buf′ ne
     again-one h (still-reading k q) e act′ buf′ new′ n′ _ refl
     (subst (λ (t : Settings). Taken m (banks act buf) t e new n (banks act′ buf′) new′ n′) (sym (settings-quiet q)) a) refl
 
--- six bytes a record
-pub records-size : (m xs : List ℕ) (w : World) → length (recordsOf m w xs) ≡ 6 * recordCount (w .session) xs
+-- the size of a record for each
+pub records-size : (m xs : List ℕ) (w : World) → length (recordsOf m w xs) ≡ recordSize * recordCount (w .session) xs
 unfolding recordsOf recordCount
 records-size m [] w = refl
 records-size m (x ∷ xs) w =
-    rw length-append (omega (arith, six m (w .banks) (w .session .settings) (eventOf (w .session) x), records-size m xs (worldAfter m w x)))
+    rw length-append (omega (arith, record-size m (w .banks) (w .session .settings) (eventOf (w .session) x), records-size m xs (worldAfter m w x)))

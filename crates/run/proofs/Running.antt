@@ -38,4 +38,4 @@ module _ {put : Bool} {m xs : List ℕ} {w₀ : World} {s t : Session} {act buf 
 
 pub running-ended : {put : Bool} {m xs : List ℕ} {w₀ w : World} {old new : List ℕ} {size i : ℕ} → Running put m xs w₀ w old new size i → length xs ≤ i
     → Ran put m w₀ xs old w size new
-running-ended k h = record { six-each = counting-ended h (k .counting); done = λ p. ended h (k .reading p) }
+running-ended k h = record { size-each = counting-ended h (k .counting); done = λ p. ended h (k .reading p) }

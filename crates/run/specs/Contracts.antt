@@ -5,6 +5,7 @@ use mathlib.Core.Bool.{Bool, true}
 use mathlib.Core.List.{List}
 use lib.ListN.{length}
 use Rattle.bits.specs.Buffer.{filled}
+use Rattle.sizes.specs.Sizes.{recordSize}
 use Rattle.settings.specs.declared.Settings.{Settings}
 use Rattle.session.specs.declared.Event.{Event}
 use Rattle.session.specs.State.{soundSession}
@@ -15,11 +16,11 @@ use Rattle.run.specs.Reading.{World, runOf, recordsOf, recordCount}
 
 -- before an event is taken, or only counted where no record is put
 pub record Passing (put : Bool) (m : List ℕ) (b : Banks) (t : Settings) (e : Event) (old : List ℕ) (at : ℕ) : Type 0 where
-  pub fits : at + 6 * recordsIn e < 2 ^ 64
+  pub fits : at + recordSize * recordsIn e < 2 ^ 64
   pub taking : put ≡ true → Taking m b t e old at
 
 pub record Past (put : Bool) (m : List ℕ) (b : Banks) (t : Settings) (e : Event) (old : List ℕ) (at : ℕ) (after : Banks) (new : List ℕ) (next : ℕ) : Type 0 where
-  pub next-place : next ≡ at + 6 * recordsIn e
+  pub next-place : next ≡ at + recordSize * recordsIn e
   pub taken : put ≡ true → Taken m b t e old at after new next
 
 -- before samples are read: a sound session; and, where their records are put, what a good map and enough room give
@@ -35,7 +36,7 @@ pub record Done (m : List ℕ) (w : World) (samples old : List ℕ) (after : Wor
   pub size-is : size ≡ length (recordsOf m w samples)
   pub records-after : new ≡ filled (recordsOf m w samples) old
 
--- after them, put or not: six bytes for each record
+-- after them, put or not: the size of a record for each
 pub record Ran (put : Bool) (m : List ℕ) (w : World) (samples old : List ℕ) (after : World) (size : ℕ) (new : List ℕ) : Type 0 where
-  pub six-each : size ≡ 6 * recordCount (w .session) samples
+  pub size-each : size ≡ recordSize * recordCount (w .session) samples
   pub done : put ≡ true → Done m w samples old after size new

@@ -3,12 +3,12 @@
 ghost use Rattle.registers.specs.Banks.{banks};
 ghost use Rattle.run.specs.Reading.{world};
 ghost use Rattle.run.specs.Contracts.{Passing, Past, Ready, Ran};
-use records::RECORD;
 use records::records_in;
 use records::take_event;
 use session::Event;
 use session::Session;
 use settings::Settings;
+use sizes::RECORD;
 use trace::next_event;
 
 // Where a pass ended: the session, and how many bytes the records have.

@@ -1,4 +1,4 @@
--- `put_record` meets its contract: six stores, one after the other.
+-- `put_record` meets its contract: a store for each byte, one after the other.
 use borrow.Author.Needs.{needs}
 use Prim.Native.Nat.{suc, _+_}
 use mathlib.Core.Path.{_≡_}

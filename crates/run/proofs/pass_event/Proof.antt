@@ -1,4 +1,4 @@
--- `pass_event` meets its contract: an event that is taken has its record of six bytes, and one that is only counted too.
+-- `pass_event` meets its contract: an event that is taken has its record, and one that is only counted too.
 use borrow.Author.Needs.{needs}
 use mathlib.Core.Path.{sym, _∙_}
 use mathlib.Core.Bool.{false≢true}

@@ -1,4 +1,4 @@
--- `count_records` meets its contract: a pass that puts no record counts six bytes for each.
+-- `count_records` meets its contract: a pass that puts no record counts the size of a record for each.
 use borrow.Author.Needs.{needs}
 use Rattle.refusals.proofs.Scan.{ready-to-count}
 use Rattle.refusals.proofs.room.count_records.Statement.{statement}

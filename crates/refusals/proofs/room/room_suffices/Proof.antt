@@ -4,6 +4,7 @@ use Prim.Native.Nat.{_*_}
 use mathlib.Core.Path.{sym}
 use native.Mathlib.Omega.{arith}
 use borrow.Author.Tests.{le-leb}
+use Rattle.sizes.specs.Sizes.{recordSize}
 use Rattle.run.specs.Reading.{recordCount}
 use Rattle.run.proofs.Bound.{records-bound}
 use Rattle.refusals.proofs.room.room_suffices.Statement.{statement}
@@ -18,7 +19,7 @@ mul-if1 c = search needs
 returns : tie.Need-returns
 returns c =
     let a = c .before .before .args in
-    sym (le-leb (6 * recordCount (a .session) (a .samples .now)) (a .room) (omega (arith, records-bound (a .session) (a .samples .now), c .if1 .taken)))
+    sym (le-leb (recordSize * recordCount (a .session) (a .samples .now)) (a .room) (omega (arith, records-bound (a .session) (a .samples .now), c .if1 .taken)))
 
 count-records-requires : tie.Need-count-records-requires
 count-records-requires c κs = search needs
