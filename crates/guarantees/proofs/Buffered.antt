@@ -16,7 +16,10 @@ use Rattle.maptest.specs.MapTest.{mapNumber}
 use Rattle.maptest.proofs.Laws.{control-15}
 use Rattle.registers.specs.Banks.{Banks, Mapped, transferred}
 use Rattle.registers.proofs.Laws.{in-banks, getD-transfer}
-use Rattle.writing.specs.Write.{controlBanks, writeBanks}
+use Rattle.writing.specs.declared.Effect.{Effect}
+use Rattle.writing.specs.declared.Effect.the-variants.{Control, Transfer}
+use Rattle.writing.specs.Effect.{controlEffect, effectOf}
+use Rattle.writing.specs.Write.{applied, writeBanks}
 use Rattle.writing.proofs.Laws.{mapped-write}
 use Rattle.order.specs.Order.{RunByte}
 use Rattle.order.specs.Number.{isConfiguration}
@@ -29,24 +32,24 @@ inForce a b = getD (b .active) a 0
 
 -- ---- one write
 
-nested-tests : {A : Type 0} (s t : Bool) (x y : A) → cond s (cond t x y) y ≡ cond (s && t) x y
-nested-tests true t x y = refl
-nested-tests false t x y = refl
-
--- clear of 0x0000, a write to a control register is a transfer or changes no bank
+-- clear of 0x0000, the effect of a write to a control register is a transfer, or changes no bank
 transfer-or-none :
     (m : List ℕ) (b : Banks) (p : RunByte) → isConfiguration p ≡ false
-    → controlBanks m b (p .address) (p .byte) ≡ cond (isTransfer p) (transferred m b) b
-unfolding controlBanks
+    → applied m b (p .address) (controlEffect (p .address) (p .byte)) ≡ cond (isTransfer p) (transferred m b) b
+unfolding applied controlEffect
 transfer-or-none m b p clear =
-    rw (or-left (eqb (p .address) 0x0000) (eqb (p .address) 0x0001) clear)
-    (nested-tests (eqb (p .address) 0x000F) (bitAt (p .byte) 0) (transferred m b) b)
+    rw (or-left (eqb (p .address) 0x0000) (eqb (p .address) 0x0001) clear) (by-tests (eqb (p .address) 0x000F) (bitAt (p .byte) 0))
+  where
+    by-tests : (s t : Bool) → applied m b (p .address) (cond s (cond t Transfer Control) Control) ≡ cond (s && t) (transferred m b) b
+    by-tests true true = refl
+    by-tests true false = refl
+    by-tests false t = refl
 
 -- in a good map 0x000F is a control register, so a transfer copies the buffer stage
 transfer-write :
     (m : List ℕ) (b : Banks) (p : RunByte) → mapNumber m ≡ 0 → isTransfer p ≡ true
     → writeBanks m b (p .address) (p .byte) ≡ transferred m b
-unfolding writeBanks controlBanks
+unfolding writeBanks applied effectOf controlEffect
 transfer-write m b p good t =
     let at-15 : p .address ≡ 0x000F = eqb-true (p .address) 0x000F (and-left (eqb (p .address) 0x000F) (bitAt (p .byte) 0) t) in
     rw (at-15, control-15 m good, and-right (eqb (p .address) 0x000F) (bitAt (p .byte) 0) t)
@@ -56,15 +59,15 @@ module _ (m : List ℕ) (a : ℕ) (kind : registerAt m a .kind ≡ buffered) whe
   kept-write :
       (b : Banks) (p : RunByte) → isConfiguration p ≡ false → isTransfer p ≡ false
       → inForce a (writeBanks m b (p .address) (p .byte)) ≡ inForce a b
-  unfolding writeBanks
+  unfolding writeBanks applied effectOf
   kept-write b p clear quiet =
       each Kept (eqb there plain) (λ t. getD-set-other (b .active) (p .address) a _ 0 (elsewhere t))
       (λ _. each Kept (eqb there buffered) (λ _. refl)
       (λ _. each Kept (eqb there control) (λ _. rw (transfer-or-none m b p clear, quiet))
       (λ _. refl)))
     where
-      Kept : Banks → Type 0
-      Kept after = inForce a after ≡ inForce a b
+      Kept : Effect → Type 0
+      Kept e = inForce a (applied m b (p .address) e) ≡ inForce a b
 
       there : ℕ
       there = registerAt m (p .address) .kind

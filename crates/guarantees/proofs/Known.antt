@@ -11,7 +11,8 @@ use Rattle.session.specs.Step.{withInstructionBit, withDataBit, stepOf}
 use Rattle.session.specs.Event.{bitEvent, abortEvent, eventOf}
 use Rattle.registers.specs.Banks.{defaultsFrom, defaultBanks, transferFrom, transferred}
 use Rattle.registers.specs.Read.{dueByte}
-use Rattle.writing.specs.Write.{controlBanks, writeBanks, writtenOf}
+use Rattle.writing.specs.Effect.{controlEffect, effectOf}
+use Rattle.writing.specs.Write.{applied, writeBanks, writtenBy}
 use Rattle.records.specs.Records.{recordOf}
 use Rattle.records.specs.BanksAfter.{banksAfter}
 use Rattle.run.specs.Reading.{runOf, recordsOf}
@@ -23,7 +24,7 @@ use Rattle.guarantees.specs.Known.{KnownResults, writeThousand}
 pub known-results : KnownResults
 unfolding bitAt merged every countOf entryAt kindRule placeRule entryGood entriesGood mapNumber
     settingsAfter controlReading withInstructionBit withDataBit stepOf bitEvent abortEvent eventOf
-    defaultsFrom defaultBanks transferFrom transferred controlBanks writeBanks writtenOf dueByte recordOf banksAfter runOf recordsOf
+    defaultsFrom defaultBanks transferFrom transferred controlEffect effectOf applied writeBanks writtenBy dueByte recordOf banksAfter runOf recordsOf
     runFrom highFirst lowFirst bitsOf byteBits runBits orderBits clocked samplesOf
 known-results = record {
   length-16 = λ m good n. (good-length m good ∙ ap (λ (k : ℕ). 3 + 3 * k) n, good-form m good ∙ ap (λ (k : ℕ). 5 + 3 * k) n);

@@ -1,53 +1,65 @@
--- Document 01, "What a whole byte does": a write of v.
+-- Document 01, "What a whole byte does": the banks after a write of v, and what the write answers.
 use Prim.Native.Nat.{ℕ}
 use mathlib.Core.Path.{_≡_}
-use mathlib.Core.Bool.{cond}
+use mathlib.Core.Bool.{Bool, true, false}
 use mathlib.Core.List.{List}
 use lib.ListN.{getD, set}
-use lib.Dec.{eqb}
-use Rattle.bits.specs.Bits.{bitAt, merged}
-use Rattle.regmap.specs.declared.Entry.{Entry}
-use Rattle.regmap.specs.Format.{registerAt, plain, buffered, control}
+use Rattle.regmap.specs.Format.{registerAt}
 use Rattle.settings.specs.declared.Settings.{Settings}
-use Rattle.settings.specs.Settings.{resets, settingsAfter, controlReading}
+use Rattle.settings.specs.Settings.{settingsAfter, controlReading}
 use Rattle.registers.specs.Banks.{Banks, banks, defaultBanks, transferred}
+use Rattle.writing.specs.declared.Effect.{Effect}
+use Rattle.writing.specs.declared.Effect.the-variants.{Nothing, Active, Buffer, Control, Transfer, Reset}
 use Rattle.writing.specs.declared.Written.{Written}
+use Rattle.writing.specs.Effect.{effectOf}
 
--- a bank whose byte at an address takes v where the mask has ones
-abbrev pub mergedAt : List ℕ → ℕ → ℕ → ℕ → List ℕ
-mergedAt bank a v mask = set bank a (merged 8 (getD bank a 0) v mask)
+-- the effect of a write of v to the register at an address
+abbrev pub effectAt : List ℕ → Banks → ℕ → ℕ → Effect
+effectAt m b a v = effectOf (registerAt m a) (getD (b .active) a 0) (getD (b .buffer) a 0) a v
 
--- a write to a control register: at 0x0000 a soft reset, at 0x000F a transfer
-unfoldable pub controlBanks : List ℕ → Banks → ℕ → ℕ → Banks
-controlBanks m b a v =
-    cond (eqb a 0x0000) (cond (resets v) (defaultBanks m) b)
-    (cond (eqb a 0x000F) (cond (bitAt v 0) (transferred m b) b)
-    b)
+-- an effect applied to the banks
+unfoldable pub applied : List ℕ → Banks → ℕ → Effect → Banks
+applied m b a Nothing = b
+applied m b a (Active byte) = banks (set (b .active) a byte) (b .buffer)
+applied m b a (Buffer byte) = banks (b .active) (set (b .buffer) a byte)
+applied m b a Control = b
+applied m b a Transfer = transferred m b
+applied m b a Reset = defaultBanks m
 
--- The banks after a write. Beyond the map a register is blank, and a blank or read-only one takes nothing.
+-- the banks after a write
 unfoldable pub writeBanks : List ℕ → Banks → ℕ → ℕ → Banks
-writeBanks m b a v =
-    cond (eqb (registerAt m a .kind) plain) (banks (mergedAt (b .active) a v (registerAt m a .mask)) (b .buffer))
-    (cond (eqb (registerAt m a .kind) buffered) (banks (b .active) (mergedAt (b .buffer) a v (registerAt m a .mask)))
-    (cond (eqb (registerAt m a .kind) control) (controlBanks m b a v)
-    b))
+writeBanks m b a v = applied m b a (effectAt m b a v)
 
--- the effect of a write to a control register: 5 soft reset, 4 transfer, else 3
-abbrev pub controlEffect : ℕ → ℕ → ℕ
-controlEffect a v =
-    cond (eqb a 0x0000) (cond (resets v) 5 3)
-    (cond (eqb a 0x000F) (cond (bitAt v 0) 4 3)
-    3)
+abbrev pub written : ℕ → ℕ → Written
+written byte effect = record { byte = byte; effect = effect }
 
--- What a write answers: the byte of the stage written, or the control reading, afterwards; and the effect.
-unfoldable pub writtenOf : List ℕ → Banks → Settings → ℕ → ℕ → Written
-writtenOf m b t a v =
-    cond (eqb (registerAt m a .kind) plain) (record { byte = getD (writeBanks m b a v .active) a 0; effect = 1 })
-    (cond (eqb (registerAt m a .kind) buffered) (record { byte = getD (writeBanks m b a v .buffer) a 0; effect = 2 })
-    (cond (eqb (registerAt m a .kind) control) (record { byte = controlReading (settingsAfter t a v) a; effect = controlEffect a v })
-    (record { byte = 0; effect = 0 })))
+-- a control register answers its reading afterwards
+abbrev pub controlWritten : Settings → ℕ → ℕ → ℕ → Written
+controlWritten t a v effect = written (controlReading (settingsAfter t a v) a) effect
+
+-- What a write answers: the byte of the stage written, or the control reading, afterwards, and the number of its effect; 0 with
+-- effect 0.
+unfoldable pub writtenBy : Settings → ℕ → ℕ → Effect → Written
+writtenBy t a v Nothing = written 0 0
+writtenBy t a v (Active byte) = written byte 1
+writtenBy t a v (Buffer byte) = written byte 2
+writtenBy t a v Control = controlWritten t a v 3
+writtenBy t a v Transfer = controlWritten t a v 4
+writtenBy t a v Reset = controlWritten t a v 5
+
+abbrev pub writtenOf : List ℕ → Banks → Settings → ℕ → ℕ → Written
+writtenOf m b t a v = writtenBy t a v (effectAt m b a v)
 
 -- what the code's write gives: its answer, and both banks
 pub record Wrote (m : List ℕ) (before : Banks) (t : Settings) (a v : ℕ) (answer : Written) (after : Banks) : Type 0 where
   pub answer-is : answer ≡ writtenOf m before t a v
   pub banks-after : after ≡ writeBanks m before a v
+
+-- the effect is on the byte of one register
+abbrev pub onByte : Effect → Bool
+onByte Nothing = false
+onByte (Active byte) = true
+onByte (Buffer byte) = true
+onByte Control = false
+onByte Transfer = false
+onByte Reset = false

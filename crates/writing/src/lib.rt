@@ -1,52 +1,100 @@
-// The write of one register: what it does to the two banks, the byte that it answers, and its effect.
+// The write of one register: its effect is decided first, then applied to the two banks, and then answered.
 ghost use mathlib.Core.Path.{_≡_};
+ghost use mathlib.Core.Bool.{true};
+ghost use Prim.Native.Nat.{_<_};
+ghost use lib.ListN.{length, getD};
 ghost use Rattle.registers.specs.Banks.{banks, Mapped};
-ghost use Rattle.writing.specs.Write.{controlBanks, controlEffect, Wrote};
-use bits::bit_at;
-use bits::merge;
+ghost use Rattle.writing.specs.Write.{applied, onByte, controlWritten, writtenBy, Wrote};
+
+mod rule;
+
 use registers::reset;
 use registers::transfer;
-use regmap::BUFFERED;
-use regmap::CONTROL;
-use regmap::PLAIN;
 use regmap::entry_at;
+pub use rule::effect_of;
 use settings::Settings;
-use settings::asks_reset;
 
-// What the write of one register answers: the byte to record, and the effect.
+// What a write does to the registers.
+pub enum Effect {
+    Nothing,
+    // The active byte of the register becomes this one.
+    Active(u8),
+    // Its buffer byte does.
+    Buffer(u8),
+    // Settings alone may change.
+    Control,
+    // Every buffered register's active byte takes its buffer byte.
+    Transfer,
+    // Every default goes into both banks.
+    Reset,
+}
+
+// What the write of one register answers: the byte to record, and the number of the effect.
 pub struct Written {
     pub byte: u8,
     pub effect: u8,
 }
 
-// The effects of a write.
-const EFFECT_NONE: u8 = 0;
-
-const EFFECT_ACTIVE: u8 = 1;
-
-const EFFECT_BUFFER: u8 = 2;
-
-const EFFECT_CONTROL: u8 = 3;
-
-const EFFECT_TRANSFER: u8 = 4;
-
-const EFFECT_RESET: u8 = 5;
-
-// Does to the banks what a write to a control register asks for, and answers its effect.
-fn write_control(map: &[u8], active: &mut [u8], buffer: &mut [u8], address: u16, v: u8) -> u8
-    requires { ⌜ Mapped (now map) (banks (now active) (now buffer)) ⌝ }
-    ensures effect { λ r. ⌜ r ≡ controlEffect address v ⌝ }
-    ensures banks_after { λ r. ⌜ banks (now (active .exit)) (now (buffer .exit)) ≡ controlBanks (now (map .entry)) (banks (now (active .entry)) (now (buffer .entry))) address v ⌝ }
+// Does to the banks what a write does.
+fn apply(map: &[u8], active: &mut [u8], buffer: &mut [u8], address: u16, effect: Effect)
+    requires { ⌜ (Mapped (now map) (banks (now active) (now buffer))) × (onByte effect ≡ true → address < length (now active)) ⌝ }
+    ensures { λ r. ⌜ banks (now (active .exit)) (now (buffer .exit)) ≡ applied (now (map .entry)) (banks (now (active .entry)) (now (buffer .entry))) address effect ⌝ }
 {
-    if (address == 0x0000) & asks_reset(v) {
-        reset(map, active, buffer);
-        return EFFECT_RESET;
+    let at = address as usize;
+    match effect {
+        Effect::Nothing => {}
+        Effect::Active(byte) => {
+            active[at] = byte;
+        }
+        Effect::Buffer(byte) => {
+            buffer[at] = byte;
+        }
+        Effect::Control => {}
+        Effect::Transfer => {
+            transfer(map, active, buffer);
+        }
+        Effect::Reset => {
+            reset(map, active, buffer);
+        }
     }
-    if (address == 0x000F) & bit_at(v, 0) {
-        transfer(map, active, buffer);
-        return EFFECT_TRANSFER;
+}
+
+// What a write of v to a control register answers: its reading afterwards, and the number of the effect.
+fn control_answer(settings: Settings, address: u16, v: u8, effect: u8) -> Written
+    ensures { λ r. ⌜ r ≡ controlWritten settings address v effect ⌝ }
+{
+    let after = settings.after(address, v);
+    Written {
+        byte: after.reading(address),
+        effect: effect,
     }
-    EFFECT_CONTROL
+}
+
+// What a write of v answers, by its effect and the settings before it.
+fn answer(settings: Settings, address: u16, v: u8, effect: Effect) -> Written
+    ensures { λ r. ⌜ r ≡ writtenBy settings address v effect ⌝ }
+{
+    match effect {
+        Effect::Nothing => Written { byte: 0, effect: 0 },
+        Effect::Active(byte) => Written {
+            byte: byte,
+            effect: 1,
+        },
+        Effect::Buffer(byte) => Written {
+            byte: byte,
+            effect: 2,
+        },
+        Effect::Control => control_answer(settings, address, v, 3),
+        Effect::Transfer => control_answer(settings, address, v, 4),
+        Effect::Reset => control_answer(settings, address, v, 5),
+    }
+}
+
+// The byte of a bank at an address, 0 beyond its end.
+fn byte_at(bank: &[u8], at: usize) -> u8
+    ensures { λ r. ⌜ r ≡ getD (now (bank .entry)) at 0 ⌝ }
+{
+    if at < bank.len() { bank[at] } else { 0 }
 }
 
 // Writes v to the register at an address. The settings are those before the write.
@@ -63,29 +111,13 @@ pub fn write(
 {
     let at = address as usize;
     let register = entry_at(map, active.len(), at);
-    if register.kind == PLAIN {
-        active[at] = merge(active[at], v, register.mask);
-        return Written {
-            byte: active[at],
-            effect: EFFECT_ACTIVE,
-        };
-    }
-    if register.kind == BUFFERED {
-        buffer[at] = merge(buffer[at], v, register.mask);
-        return Written {
-            byte: buffer[at],
-            effect: EFFECT_BUFFER,
-        };
-    }
-    if register.kind == CONTROL {
-        let effect = write_control(map, active, buffer, address, v);
-        return Written {
-            byte: settings.after(address, v).reading(address),
-            effect: effect,
-        };
-    }
-    Written {
-        byte: 0,
-        effect: EFFECT_NONE,
-    }
+    let effect = effect_of(
+        register,
+        byte_at(active, at),
+        byte_at(buffer, at),
+        address,
+        v,
+    );
+    apply(map, active, buffer, address, effect);
+    answer(settings, address, v, effect)
 }

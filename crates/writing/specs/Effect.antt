@@ -1,0 +1,26 @@
+-- Document 01, "What a whole byte does": the effect of a write of v.
+use Prim.Native.Nat.{ℕ}
+use mathlib.Core.Bool.{cond}
+use lib.Dec.{eqb}
+use Rattle.bits.specs.Bits.{bitAt, merged}
+use Rattle.regmap.specs.declared.Entry.{Entry}
+use Rattle.regmap.specs.Format.{plain, buffered, control}
+use Rattle.settings.specs.Settings.{resets}
+use Rattle.writing.specs.declared.Effect.{Effect}
+use Rattle.writing.specs.declared.Effect.the-variants.{Nothing, Active, Buffer, Control, Transfer, Reset}
+
+-- a control register: at 0x0000 a soft reset if the byte asks for it, at 0x000F a transfer if bit 0 is set
+unfoldable pub controlEffect : ℕ → ℕ → Effect
+controlEffect a v =
+    cond (eqb a 0x0000) (cond (resets v) Reset Control)
+    (cond (eqb a 0x000F) (cond (bitAt v 0) Transfer Control)
+    Control)
+
+-- By the register's entry and its bytes of both stages: kind 2 takes v into the active byte where the mask has ones, kind 3 into the
+-- buffer byte. A blank or read-only register takes nothing, and beyond the map a register is blank.
+unfoldable pub effectOf : Entry → ℕ → ℕ → ℕ → ℕ → Effect
+effectOf e active buffer a v =
+    cond (eqb (e .kind) plain) (Active (merged 8 active v (e .mask)))
+    (cond (eqb (e .kind) buffered) (Buffer (merged 8 buffer v (e .mask)))
+    (cond (eqb (e .kind) control) (controlEffect a v)
+    Nothing))

@@ -1,0 +1,40 @@
+// What a write does: the writing rule. It decides by the register's entry and its two bytes before, and changes nothing.
+ghost use mathlib.Core.Path.{_≡_};
+ghost use Rattle.writing.specs.Effect.{controlEffect, effectOf};
+use crate::Effect;
+use bits::bit_at;
+use bits::merge;
+use regmap::BUFFERED;
+use regmap::CONTROL;
+use regmap::Entry;
+use regmap::PLAIN;
+use settings::asks_reset;
+
+// What a write of v to a control register does.
+fn control_effect(address: u16, v: u8) -> Effect
+    ensures { λ r. ⌜ r ≡ controlEffect address v ⌝ }
+{
+    if (address == 0x0000) & asks_reset(v) {
+        return Effect::Reset;
+    }
+    if (address == 0x000F) & bit_at(v, 0) {
+        return Effect::Transfer;
+    }
+    Effect::Control
+}
+
+// What a write of v to a register does, by its entry and its bytes of both stages.
+pub fn effect_of(register: Entry, active: u8, buffer: u8, address: u16, v: u8) -> Effect
+    ensures { λ r. ⌜ r ≡ effectOf register active buffer address v ⌝ }
+{
+    if register.kind == PLAIN {
+        return Effect::Active(merge(active, v, register.mask));
+    }
+    if register.kind == BUFFERED {
+        return Effect::Buffer(merge(buffer, v, register.mask));
+    }
+    if register.kind == CONTROL {
+        return control_effect(address, v);
+    }
+    Effect::Nothing
+}
