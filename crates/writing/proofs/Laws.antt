@@ -14,6 +14,7 @@ use Rattle.regmap.specs.Format.{registerAt, plain, buffered, control}
 use Rattle.settings.specs.Settings.{resets}
 use Rattle.registers.specs.Banks.{Banks, Mapped}
 use Rattle.registers.proofs.Laws.{mapped-defaults, mapped-transfer, in-banks}
+use Rattle.writing.specs.declared.Stages.{Stages}
 use Rattle.writing.specs.declared.Effect.{Effect}
 use Rattle.writing.specs.declared.Effect.the-variants.{Nothing, Active, Buffer, Control, Transfer, Reset}
 use Rattle.writing.specs.Effect.{controlEffect, effectOf}
@@ -61,10 +62,10 @@ module _ (a v : ℕ) where
 -- ---- an effect on the banks
 
 -- an effect on a byte is within the banks
-pub effect-within : {m : List ℕ} {b : Banks} → Mapped m b → (x y a v : ℕ) → onByte (effectOf (registerAt m a) x y a v) ≡ true
+pub effect-within : {m : List ℕ} {b : Banks} → Mapped m b → (s : Stages) (a v : ℕ) → onByte (effectOf (registerAt m a) s a v) ≡ true
     → a < length (b .active)
 unfolding effectOf
-effect-within {m} {b} h x y a v =
+effect-within {m} {b} h s a v =
     each Inside (eqb (registerAt m a .kind) plain) (λ k t. in-banks h (eqb-true _ _ k) (λ z. omega arith) .0)
     (λ _. each Inside (eqb (registerAt m a .kind) buffered) (λ k t. in-banks h (eqb-true _ _ k) (λ z. omega arith) .0)
     (λ _. each Inside (eqb (registerAt m a .kind) control) (λ k t. absurd (false≢true (sym (control-apart a v) ∙ t)))

@@ -6,6 +6,7 @@ use Rattle.bits.specs.Bits.{bitAt, merged}
 use Rattle.regmap.specs.declared.Entry.{Entry}
 use Rattle.regmap.specs.Format.{plain, buffered, control}
 use Rattle.settings.specs.Settings.{resets}
+use Rattle.writing.specs.declared.Stages.{Stages}
 use Rattle.writing.specs.declared.Effect.{Effect}
 use Rattle.writing.specs.declared.Effect.the-variants.{Nothing, Active, Buffer, Control, Transfer, Reset}
 
@@ -18,9 +19,9 @@ controlEffect a v =
 
 -- By the register's entry and its bytes of both stages: kind 2 takes v into the active byte where the mask has ones, kind 3 into the
 -- buffer byte. A blank or read-only register takes nothing, and beyond the map a register is blank.
-unfoldable pub effectOf : Entry → ℕ → ℕ → ℕ → ℕ → Effect
-effectOf e active buffer a v =
-    cond (eqb (e .kind) plain) (Active (merged 8 active v (e .mask)))
-    (cond (eqb (e .kind) buffered) (Buffer (merged 8 buffer v (e .mask)))
+unfoldable pub effectOf : Entry → Stages → ℕ → ℕ → Effect
+effectOf e s a v =
+    cond (eqb (e .kind) plain) (Active (merged 8 (s .active) v (e .mask)))
+    (cond (eqb (e .kind) buffered) (Buffer (merged 8 (s .buffer) v (e .mask)))
     (cond (eqb (e .kind) control) (controlEffect a v)
     Nothing))

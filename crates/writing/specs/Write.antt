@@ -8,14 +8,19 @@ use Rattle.regmap.specs.Format.{registerAt}
 use Rattle.settings.specs.declared.Settings.{Settings}
 use Rattle.settings.specs.Settings.{settingsAfter, controlReading}
 use Rattle.registers.specs.Banks.{Banks, banks, defaultBanks, transferred}
+use Rattle.writing.specs.declared.Stages.{Stages}
 use Rattle.writing.specs.declared.Effect.{Effect}
 use Rattle.writing.specs.declared.Effect.the-variants.{Nothing, Active, Buffer, Control, Transfer, Reset}
 use Rattle.writing.specs.declared.Written.{Written}
 use Rattle.writing.specs.Effect.{effectOf}
 
+-- the bytes of one register in both stages
+abbrev pub stagesAt : Banks → ℕ → Stages
+stagesAt b a = record { active = getD (b .active) a 0; buffer = getD (b .buffer) a 0 }
+
 -- the effect of a write of v to the register at an address
 abbrev pub effectAt : List ℕ → Banks → ℕ → ℕ → Effect
-effectAt m b a v = effectOf (registerAt m a) (getD (b .active) a 0) (getD (b .buffer) a 0) a v
+effectAt m b a v = effectOf (registerAt m a) (stagesAt b a) a v
 
 -- an effect applied to the banks
 unfoldable pub applied : List ℕ → Banks → ℕ → Effect → Banks

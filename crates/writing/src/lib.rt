@@ -1,10 +1,10 @@
-// The write of one register: its effect is decided first, then applied to the two banks, and then answered.
+// The write of one register: its effect is decided first, then applied to the two banks and answered.
 ghost use mathlib.Core.Path.{_≡_};
 ghost use mathlib.Core.Bool.{true};
 ghost use Prim.Native.Nat.{_<_};
-ghost use lib.ListN.{length, getD};
+ghost use lib.ListN.{length};
 ghost use Rattle.registers.specs.Banks.{banks, Mapped};
-ghost use Rattle.writing.specs.Write.{applied, onByte, controlWritten, writtenBy, Wrote};
+ghost use Rattle.writing.specs.Write.{stagesAt, applied, onByte, controlWritten, writtenBy, Wrote};
 
 mod rule;
 
@@ -35,27 +35,26 @@ pub struct Written {
     pub effect: u8,
 }
 
-// Does to the banks what a write does.
-fn apply(map: &[u8], active: &mut [u8], buffer: &mut [u8], address: u16, effect: Effect)
-    requires { ⌜ (Mapped (now map) (banks (now active) (now buffer))) × (onByte effect ≡ true → address < length (now active)) ⌝ }
-    ensures { λ r. ⌜ banks (now (active .exit)) (now (buffer .exit)) ≡ applied (now (map .entry)) (banks (now (active .entry)) (now (buffer .entry))) address effect ⌝ }
+// The bytes of one register in both stages.
+pub struct Stages {
+    pub active: u8,
+    pub buffer: u8,
+}
+
+// The bytes at an address of the two banks, 0 beyond their end.
+fn stages_at(active: &[u8], buffer: &[u8], at: usize) -> Stages
+    requires { ⌜ length (now buffer) ≡ length (now active) ⌝ }
+    ensures { λ r. ⌜ r ≡ stagesAt (banks (now (active .entry)) (now (buffer .entry))) at ⌝ }
 {
-    let at = address as usize;
-    match effect {
-        Effect::Nothing => {}
-        Effect::Active(byte) => {
-            active[at] = byte;
-        }
-        Effect::Buffer(byte) => {
-            buffer[at] = byte;
-        }
-        Effect::Control => {}
-        Effect::Transfer => {
-            transfer(map, active, buffer);
-        }
-        Effect::Reset => {
-            reset(map, active, buffer);
-        }
+    if at < active.len() {
+        return Stages {
+            active: active[at],
+            buffer: buffer[at],
+        };
+    }
+    Stages {
+        active: 0,
+        buffer: 0,
     }
 }
 
@@ -70,31 +69,47 @@ fn control_answer(settings: Settings, address: u16, v: u8, effect: u8) -> Writte
     }
 }
 
-// What a write of v answers, by its effect and the settings before it.
-fn answer(settings: Settings, address: u16, v: u8, effect: Effect) -> Written
-    ensures { λ r. ⌜ r ≡ writtenBy settings address v effect ⌝ }
+// Does to the banks what a write of v does, and answers by its effect and the settings before it.
+fn apply(
+    map: &[u8],
+    active: &mut [u8],
+    buffer: &mut [u8],
+    settings: Settings,
+    address: u16,
+    v: u8,
+    effect: Effect,
+) -> Written
+    requires { ⌜ (Mapped (now map) (banks (now active) (now buffer))) × (onByte effect ≡ true → address < length (now active)) ⌝ }
+    ensures answer { λ r. ⌜ r ≡ writtenBy settings address v effect ⌝ }
+    ensures banks_after { λ r. ⌜ banks (now (active .exit)) (now (buffer .exit)) ≡ applied (now (map .entry)) (banks (now (active .entry)) (now (buffer .entry))) address effect ⌝ }
 {
+    let at = address as usize;
     match effect {
         Effect::Nothing => Written { byte: 0, effect: 0 },
-        Effect::Active(byte) => Written {
-            byte: byte,
-            effect: 1,
-        },
-        Effect::Buffer(byte) => Written {
-            byte: byte,
-            effect: 2,
-        },
+        Effect::Active(byte) => {
+            active[at] = byte;
+            Written {
+                byte: byte,
+                effect: 1,
+            }
+        }
+        Effect::Buffer(byte) => {
+            buffer[at] = byte;
+            Written {
+                byte: byte,
+                effect: 2,
+            }
+        }
         Effect::Control => control_answer(settings, address, v, 3),
-        Effect::Transfer => control_answer(settings, address, v, 4),
-        Effect::Reset => control_answer(settings, address, v, 5),
+        Effect::Transfer => {
+            transfer(map, active, buffer);
+            control_answer(settings, address, v, 4)
+        }
+        Effect::Reset => {
+            reset(map, active, buffer);
+            control_answer(settings, address, v, 5)
+        }
     }
-}
-
-// The byte of a bank at an address, 0 beyond its end.
-fn byte_at(bank: &[u8], at: usize) -> u8
-    ensures { λ r. ⌜ r ≡ getD (now (bank .entry)) at 0 ⌝ }
-{
-    if at < bank.len() { bank[at] } else { 0 }
 }
 
 // Writes v to the register at an address. The settings are those before the write.
@@ -111,13 +126,7 @@ pub fn write(
 {
     let at = address as usize;
     let register = entry_at(map, active.len(), at);
-    let effect = effect_of(
-        register,
-        byte_at(active, at),
-        byte_at(buffer, at),
-        address,
-        v,
-    );
-    apply(map, active, buffer, address, effect);
-    answer(settings, address, v, effect)
+    let stages = stages_at(active, buffer, at);
+    let effect = effect_of(register, stages, address, v);
+    apply(map, active, buffer, settings, address, v, effect)
 }

@@ -2,6 +2,7 @@
 ghost use mathlib.Core.Path.{_≡_};
 ghost use Rattle.writing.specs.Effect.{controlEffect, effectOf};
 use crate::Effect;
+use crate::Stages;
 use bits::bit_at;
 use bits::merge;
 use regmap::BUFFERED;
@@ -24,14 +25,14 @@ fn control_effect(address: u16, v: u8) -> Effect
 }
 
 // What a write of v to a register does, by its entry and its bytes of both stages.
-pub fn effect_of(register: Entry, active: u8, buffer: u8, address: u16, v: u8) -> Effect
-    ensures { λ r. ⌜ r ≡ effectOf register active buffer address v ⌝ }
+pub fn effect_of(register: Entry, stages: Stages, address: u16, v: u8) -> Effect
+    ensures { λ r. ⌜ r ≡ effectOf register stages address v ⌝ }
 {
     if register.kind == PLAIN {
-        return Effect::Active(merge(active, v, register.mask));
+        return Effect::Active(merge(stages.active, v, register.mask));
     }
     if register.kind == BUFFERED {
-        return Effect::Buffer(merge(buffer, v, register.mask));
+        return Effect::Buffer(merge(stages.buffer, v, register.mask));
     }
     if register.kind == CONTROL {
         return control_effect(address, v);
