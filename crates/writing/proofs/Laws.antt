@@ -19,16 +19,16 @@ module _ {m : List ℕ} {b : Banks} (h : Mapped m b) where
   mapped-control : (a v : ℕ) → Mapped m (controlBanks m b a v)
   unfolding controlBanks
   mapped-control a v =
-      each (Mapped m) (eqb a 0x0000) (λ e. each (Mapped m) (resets v) (λ e. mapped-defaults m (h .entries)) (λ e. h))
+      each (Mapped m) (eqb a 0x0000) (λ e. each (Mapped m) (resets v) (λ e. mapped-defaults m) (λ e. h))
       (λ e. each (Mapped m) (eqb a 0x000F) (λ e. each (Mapped m) (bitAt v 0) (λ e. mapped-transfer h) (λ e. h)) (λ e. h))
 
   pub mapped-write : (a v : ℕ) → Mapped m (writeBanks m b a v)
   unfolding writeBanks
   mapped-write a v =
       each (Mapped m) (eqb (registerAt m a .kind) plain)
-      (λ e. record { entries = h .entries; active-size = simp length-set (h .active-size); buffer-size = h .buffer-size })
+      (λ e. record { active-size = simp length-set (h .active-size); buffer-size = h .buffer-size })
       (λ e. each (Mapped m) (eqb (registerAt m a .kind) buffered)
-      (λ e. record { entries = h .entries; active-size = h .active-size; buffer-size = simp length-set (h .buffer-size) })
+      (λ e. record { active-size = h .active-size; buffer-size = simp length-set (h .buffer-size) })
       (λ e. each (Mapped m) (eqb (registerAt m a .kind) control) (λ e. mapped-control a v) (λ e. h)))
 
 -- where neither of two pairs of tests holds, what both would change stays
