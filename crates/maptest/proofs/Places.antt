@@ -10,9 +10,9 @@ use lib.ListN.{getD, List·getD-eq-default}
 use lib.Dec.{eqb, ltb}
 use Rattle.bits.proofs.Cases.{yes, and-left, and-right}
 use Rattle.regmap.specs.Format.{control}
-use Rattle.maptest.specs.MapTest.{free, placeKinds, placeRule}
+use Rattle.maptest.specs.MapTest.{free, places, placeKinds, placeRule}
 
-pub free-place : (a k : ℕ) → 16 ≤ a → not (eqb k control) ≡ placeRule a k
+pub free-place : (a k : ℕ) → places ≤ a → not (eqb k control) ≡ placeRule a k
 unfolding placeRule
 free-place a k h = yes _ (ap (λ (p : ℕ). eqb p free) (List·getD-eq-default placeKinds free h)) refl
 
@@ -43,14 +43,14 @@ controlPlace a = eqb a 0x0000 || (eqb a 0x0001 || eqb a 0x000F)
 
 -- The table asks for control at 0x0000, 0x0001 and 0x000F alone: computed at its sixteen places, and beyond them all is free.
 asks-control : (a : ℕ) → asksControl a ≡ controlPlace a
-asks-control a = go (ltb a 16) refl
+asks-control a = go (ltb a places) refl
   where
-    go : (b : Bool) → ltb a 16 ≡ b → asksControl a ≡ controlPlace a
+    go : (b : Bool) → ltb a places ≡ b → asksControl a ≡ controlPlace a
     go true e =
         same (asksControl a) (controlPlace a)
-        (below (λ (k : ℕ). Bool·beq (asksControl k) (controlPlace k)) 16 refl a (ltb-true a 16 e))
+        (below (λ (k : ℕ). Bool·beq (asksControl k) (controlPlace k)) places refl a (ltb-true a places e))
     go false e =
-        let h = ltb-false a 16 e in
+        let h = ltb-false a places e in
         rw (
           List·getD-eq-default placeKinds free h,
           ne-eqb a 0x0000 (λ z. omega arith),

@@ -7,24 +7,25 @@ use lib.ListN.{length, getD}
 use lib.Dec.{eqb, leb}
 use Rattle.bits.specs.Tests.{every, unless}
 use Rattle.regmap.specs.declared.Entry.{Entry}
-use Rattle.regmap.specs.Format.{lengthOf, versionOf, countOf, blank, readOnly, plain, buffered, control, registerAt}
+use Rattle.regmap.specs.Format.{lengthOf, versionOf, countOf, leastCount, mostCount, lengthSize, headSize, sizeOf}
+use Rattle.regmap.specs.Format.{blank, readOnly, plain, buffered, control, registerAt}
 
 -- Number 2: fewer than 5 bytes; length, version or n wrong; or a slice that is not as long as the map.
 abbrev pub formTests : List ℕ → List Bool
 formTests m =
-    leb 5 (length m)
-    ∷ eqb (lengthOf m) (3 + 3 * countOf m)
+    leb headSize (length m)
+    ∷ eqb (lengthSize + lengthOf m) (sizeOf m)
     ∷ eqb (versionOf m) 1
-    ∷ leb 16 (countOf m)
-    ∷ leb (countOf m) 8192
-    ∷ eqb (length m) (5 + 3 * countOf m)
+    ∷ leb leastCount (countOf m)
+    ∷ leb (countOf m) mostCount
+    ∷ eqb (length m) (sizeOf m)
     ∷ []
 
 -- What good form gives: n is 16 to 8,192, and all the entries are there.
 pub record Formed (m : List ℕ) : Type 0 where
-  pub least : 16 ≤ countOf m
-  pub most : countOf m ≤ 8192
-  pub whole : length m ≡ 5 + 3 * countOf m
+  pub least : leastCount ≤ countOf m
+  pub most : countOf m ≤ mostCount
+  pub whole : length m ≡ sizeOf m
 
 -- The entry rule: what each kind asks of mask and default.
 unfoldable pub kindRule : Entry → Bool
@@ -40,7 +41,11 @@ kindRule e =
 abbrev pub free : ℕ
 free = 9
 
--- The kind that each address from 0x0000 to 0x000F asks for.
+-- The places that ask for a kind: 0x0000 to 0x000F.
+abbrev pub places : ℕ
+places = 16
+
+-- The kind that each of them asks for.
 abbrev pub placeKinds : List ℕ
 placeKinds =
     control ∷ control ∷ free ∷ readOnly ∷ readOnly ∷ readOnly ∷ readOnly ∷ blank

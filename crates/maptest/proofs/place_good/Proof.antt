@@ -7,12 +7,12 @@ use lib.ListN.{getD}
 use lib.Seq.{drop-cons}
 use lib.Dec.{eqb}
 use Rattle.bits.proofs.Cases.{yes, no}
-use Rattle.maptest.specs.MapTest.{free, placeKinds, placeRule}
+use Rattle.maptest.specs.MapTest.{free, places, placeKinds, placeRule}
 use Rattle.maptest.proofs.place_good.Statement.{statement}
 use Rattle.maptest.proofs.place_good.Tie as tie
 
 -- inside the table the default doesn't matter
-in-table : (a : ℕ) → a < 16 → getD placeKinds a free ≡ getD placeKinds a 0
+in-table : (a : ℕ) → a < places → getD placeKinds a free ≡ getD placeKinds a 0
 in-table a h = cc (drop-cons placeKinds a free h, drop-cons placeKinds a 0 h)
 
 array-read-place : tie.Need-array-read-place
