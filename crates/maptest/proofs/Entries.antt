@@ -45,7 +45,7 @@ two-runs m a zero k = rw (zero-add k, add-zero a)
 two-runs m a (suc j) k =
     let e : a + suc j ≡ a + 1 + j = omega arith in
     rw (suc-add j k, e, two-runs m (a + 1) j k)
-    (sym (and-assoc (entryGood m a) (entriesGood m (a + 1) j) (entriesGood m (a + 1 + j) k)))
+    (sym (and-assoc (entryGood a (registerAt m a)) (entriesGood m (a + 1) j) (entriesGood m (a + 1 + j) k)))
 
 -- the rules of number 3 in three parts: the first sixteen entries, the others, and the single bytes
 pub three-parts :
@@ -56,10 +56,10 @@ three-parts m p o f g ep eo ef =
     let e : places + (countOf m - places) ≡ countOf m = omega (arith, g .least) in
     rw (ep, eo, ef, ← two-runs m 0 places (countOf m - places)) (ap (λ (k : ℕ). entriesGood m 0 k && every (furtherTests m)) e)
 
-pub entries-each : (m : List ℕ) (a k : ℕ) → entriesGood m a k ≡ true → (i : ℕ) → i < k → entryGood m (a + i) ≡ true
+pub entries-each : (m : List ℕ) (a k : ℕ) → entriesGood m a k ≡ true → (i : ℕ) → i < k → entryGood (a + i) (registerAt m (a + i)) ≡ true
 unfolding entriesGood
 entries-each m a zero h i l = absurd (omega arith)
-entries-each m a (suc k) h zero l = rw (add-zero a) (and-left (entryGood m a) (entriesGood m (a + 1) k) h)
+entries-each m a (suc k) h zero l = rw (add-zero a) (and-left (entryGood a (registerAt m a)) (entriesGood m (a + 1) k) h)
 entries-each m a (suc k) h (suc i) l =
     let e : a + suc i ≡ a + 1 + i = omega arith in
-    rw e (entries-each m (a + 1) k (and-right (entryGood m a) (entriesGood m (a + 1) k) h) i (omega arith))
+    rw e (entries-each m (a + 1) k (and-right (entryGood a (registerAt m a)) (entriesGood m (a + 1) k) h) i (omega arith))

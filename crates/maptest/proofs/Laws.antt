@@ -13,7 +13,7 @@ use Rattle.bits.proofs.Cases.{each, and-left, and-right, every-true}
 use Rattle.regmap.specs.Format.{lengthOf, countOf, leastCount, mostCount, lengthSize, entrySize, headOf, sizeOf, registerAt, control}
 use Rattle.maptest.specs.MapTest.{formTests, Formed, kindRule, places, placeRule, entryGood, entriesGood, furtherTests, mapNumber}
 use Rattle.maptest.proofs.Entries.{entries-each}
-use Rattle.maptest.proofs.Places.{placed-control}
+use Rattle.maptest.proofs.PlaceKinds.{placed-control}
 
 -- the tests of the form, each turned into its fact
 pub formed : (m : List ℕ) → every (formTests m) ≡ true → Formed m
@@ -52,7 +52,8 @@ module _ (m : List ℕ) (good : mapNumber m ≡ 0) where
   good-count : (leastCount ≤ countOf m) × (countOf m ≤ mostCount)
   good-count = let f = formed m (passed .0) in (f .least, f .most)
 
-  good-entry : (a : ℕ) → a < countOf m → entryGood m a ≡ true
+  -- each entry of a good map is good
+  pub good-entry : (a : ℕ) → a < countOf m → entryGood a (registerAt m a) ≡ true
   good-entry a h =
       rw zero-add at
       (entries-each m 0 (countOf m) (and-left (entriesGood m 0 (countOf m)) (every (furtherTests m)) (passed .1)) a h)

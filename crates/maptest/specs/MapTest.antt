@@ -51,18 +51,22 @@ placeKinds =
     control ∷ control ∷ free ∷ readOnly ∷ readOnly ∷ readOnly ∷ readOnly ∷ blank
     ∷ free ∷ free ∷ plain ∷ readOnly ∷ readOnly ∷ readOnly ∷ blank ∷ control ∷ []
 
+-- The kind that an address asks for; from 0x0010 on all places are free.
+abbrev pub placeKind : ℕ → ℕ
+placeKind address = getD placeKinds address free
+
 -- The kind fits the place: control exactly at 0x0000, 0x0001 and 0x000F, and the further rules' kinds.
 unfoldable pub placeRule : ℕ → ℕ → Bool
-placeRule address kind =
-    cond (eqb (getD placeKinds address free) free) (not (eqb kind control)) (eqb kind (getD placeKinds address free))
+placeRule address kind = cond (eqb (placeKind address) free) (not (eqb kind control)) (eqb kind (placeKind address))
 
-unfoldable pub entryGood : List ℕ → ℕ → Bool
-entryGood m a = kindRule (registerAt m a) && placeRule a (registerAt m a .kind)
+-- One entry, at its address.
+unfoldable pub entryGood : ℕ → Entry → Bool
+entryGood address e = kindRule e && placeRule address (e .kind)
 
 -- k entries, from address a on
 unfoldable pub entriesGood : List ℕ → ℕ → ℕ → Bool
 entriesGood m a zero = true
-entriesGood m a (suc k) = entryGood m a && entriesGood m (a + 1) k
+entriesGood m a (suc k) = entryGood a (registerAt m a) && entriesGood m (a + 1) k
 
 -- the product number: 0x0004 low, 0x0005 high
 abbrev pub productOf : List ℕ → ℕ

@@ -3,7 +3,14 @@ ghost use mathlib.Core.Path.{_≡_};
 ghost use Prim.Native.Nat.{_<_, _-_};
 ghost use Rattle.bits.specs.Tests.{every};
 ghost use Rattle.regmap.specs.Format.{countOf, registerAt};
-ghost use Rattle.maptest.specs.MapTest.{formTests, Formed, kindRule, places, placeRule, entriesGood, furtherTests, mapNumber};
+ghost use Rattle.maptest.specs.MapTest.{formTests, Formed, kindRule, places, entriesGood, furtherTests, mapNumber};
+
+mod places;
+
+pub use places::FREE;
+use places::PLACES;
+use places::place_good;
+pub use places::place_kind;
 use regmap::BLANK;
 use regmap::BUFFERED;
 use regmap::CONTROL;
@@ -16,32 +23,6 @@ use regmap::MOST_COUNT;
 use regmap::PLAIN;
 use regmap::READ_ONLY;
 use regmap::count;
-
-// A place where any kind but control may stand.
-const FREE: u8 = 9;
-
-// The places that ask for a kind: 0x0000 to 0x000F.
-const PLACES: usize = 16;
-
-// The kind that each of them asks for.
-const PLACE_KINDS: [u8; PLACES] = [
-    CONTROL,
-    CONTROL,
-    FREE,
-    READ_ONLY,
-    READ_ONLY,
-    READ_ONLY,
-    READ_ONLY,
-    BLANK,
-    FREE,
-    FREE,
-    PLAIN,
-    READ_ONLY,
-    READ_ONLY,
-    READ_ONLY,
-    BLANK,
-    CONTROL,
-];
 
 // Whether the head is right and the slice as long as the map.
 fn form_good(map: &[u8]) -> bool
@@ -80,19 +61,6 @@ fn kind_good(entry: Entry) -> bool
     let changes = (entry.kind == PLAIN) | (entry.kind == BUFFERED);
     let fixed = (entry.kind == BLANK) | (entry.kind == CONTROL);
     changes | (entry.mask == 0) & ((entry.kind == READ_ONLY) | fixed & (entry.default == 0))
-}
-
-// Whether a kind fits one of the first sixteen places.
-fn place_good(address: usize, kind: u8) -> bool
-    requires { ⌜ address < places ⌝ }
-    ensures { λ r. ⌜ r ≡ placeRule address kind ⌝ }
-{
-    let place = PLACE_KINDS[address];
-    if place == FREE {
-        kind != CONTROL
-    } else {
-        kind == place
-    }
 }
 
 // Whether the entries from 0x0000 to 0x000F are good.

@@ -7,9 +7,10 @@ use native.Mathlib.Nat.{add-zero}
 use native.Mathlib.Omega.{arith}
 use borrow.Author.Tests.{lt-ltb, le-ltb}
 use lib.Dec.{ltb}
+use Rattle.bits.specs.Bytes.{byteAt}
 use Rattle.bits.proofs.Cases.{each}
 use Rattle.regmap.specs.declared.Entry.{Entry}
-use Rattle.regmap.specs.Format.{byteAt, countOf, entryStart, entryAt}
+use Rattle.regmap.specs.Format.{countOf, entryStart, entryAt}
 
 -- n is two bytes
 pub count-fits : (m : List ℕ) → ((i : ℕ) → byteAt m i < 2 ^ 8) → countOf m < 2 ^ 16

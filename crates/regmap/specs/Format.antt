@@ -2,17 +2,9 @@
 use Prim.Native.Nat.{ℕ, _+_, _*_}
 use mathlib.Core.Bool.{cond}
 use mathlib.Core.List.{List}
-use lib.ListN.{getD}
 use lib.Dec.{ltb}
+use Rattle.bits.specs.Bytes.{byteAt, wordAt}
 use Rattle.regmap.specs.declared.Entry.{Entry}
-
--- the byte at a place, 0 beyond the end
-abbrev pub byteAt : List ℕ → ℕ → ℕ
-byteAt m i = getD m i 0
-
--- sixteen bits, big-endian
-abbrev pub wordAt : List ℕ → ℕ → ℕ
-wordAt m i = byteAt m i * 256 + byteAt m (i + 1)
 
 -- the length of all that follows the length
 abbrev pub lengthOf : List ℕ → ℕ

@@ -1,6 +1,7 @@
 // The register map: bytes that a caller lends. Nothing of them is copied.
 ghost use mathlib.Core.Path.{_≡_};
-ghost use Rattle.regmap.specs.Format.{byteAt, countOf};
+ghost use Rattle.bits.specs.Bytes.{byteAt};
+ghost use Rattle.regmap.specs.Format.{countOf};
 
 mod in_use;
 

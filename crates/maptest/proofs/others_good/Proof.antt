@@ -9,7 +9,7 @@ use Rattle.regmap.specs.declared.Entry.{Entry}
 use Rattle.regmap.specs.Format.{control}
 use Rattle.maptest.specs.MapTest.{kindRule, places, placeRule, entriesGood}
 use Rattle.maptest.proofs.Entries.{Tested, begun, again, ended}
-use Rattle.maptest.proofs.Places.{free-place}
+use Rattle.maptest.proofs.PlaceKinds.{free-place}
 use Rattle.maptest.proofs.others_good.Statement.{statement}
 use Rattle.maptest.proofs.others_good.Tie as tie
 
