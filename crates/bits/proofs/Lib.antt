@@ -1,3 +1,5 @@
 pub mod Buffer
+pub mod Bytes
 pub mod Cases
 pub mod Laws
+pub mod Tables

@@ -1,3 +1,4 @@
 pub mod Bits
 pub mod Buffer
+pub mod Bytes
 pub mod Tests

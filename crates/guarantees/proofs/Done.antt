@@ -63,7 +63,7 @@ no-refusal m w xs room good h fine few enough =
 -- a session at rest, with its banks
 pub rest-sound : (m : List ℕ) (w : World) (o : Order) → AtRest m w o → Sound m w
 rest-sound m w o rest =
-    record { session-sound = rest .sound; mapped = fits-mapped m (w .banks) (rest .good-map) (rest .bank-sizes) }
+    record { session-sound = rest .sound; mapped = fits-mapped m (w .banks) (rest .bank-sizes) }
 
 -- ---- the samples are good, and few
 

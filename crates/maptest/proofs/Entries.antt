@@ -8,7 +8,7 @@ use native.Mathlib.Omega.{arith}
 use Rattle.bits.specs.Tests.{every}
 use Rattle.bits.proofs.Cases.{and-left, and-right}
 use Rattle.regmap.specs.Format.{countOf, registerAt}
-use Rattle.maptest.specs.MapTest.{Formed, kindRule, placeRule, entryGood, entriesGood, furtherTests}
+use Rattle.maptest.specs.MapTest.{Formed, kindRule, places, placeRule, entryGood, entriesGood, furtherTests}
 
 -- what a loop from first to last has found before address a, with the rest of the entries, is the whole
 pub record Tested (m : List ℕ) (first last : ℕ) (good : Bool) (a : ℕ) : Type 0 where
@@ -45,21 +45,21 @@ two-runs m a zero k = rw (zero-add k, add-zero a)
 two-runs m a (suc j) k =
     let e : a + suc j ≡ a + 1 + j = omega arith in
     rw (suc-add j k, e, two-runs m (a + 1) j k)
-    (sym (and-assoc (entryGood m a) (entriesGood m (a + 1) j) (entriesGood m (a + 1 + j) k)))
+    (sym (and-assoc (entryGood a (registerAt m a)) (entriesGood m (a + 1) j) (entriesGood m (a + 1 + j) k)))
 
 -- the rules of number 3 in three parts: the first sixteen entries, the others, and the single bytes
 pub three-parts :
     (m : List ℕ) (p o f : Bool) → Formed m
-    → p ≡ entriesGood m 0 16 → o ≡ entriesGood m 16 (countOf m - 16) → f ≡ every (furtherTests m)
+    → p ≡ entriesGood m 0 places → o ≡ entriesGood m places (countOf m - places) → f ≡ every (furtherTests m)
     → (p && o && f) ≡ (entriesGood m 0 (countOf m) && every (furtherTests m))
 three-parts m p o f g ep eo ef =
-    let e : 16 + (countOf m - 16) ≡ countOf m = omega (arith, g .least) in
-    rw (ep, eo, ef, ← two-runs m 0 16 (countOf m - 16)) (ap (λ (k : ℕ). entriesGood m 0 k && every (furtherTests m)) e)
+    let e : places + (countOf m - places) ≡ countOf m = omega (arith, g .least) in
+    rw (ep, eo, ef, ← two-runs m 0 places (countOf m - places)) (ap (λ (k : ℕ). entriesGood m 0 k && every (furtherTests m)) e)
 
-pub entries-each : (m : List ℕ) (a k : ℕ) → entriesGood m a k ≡ true → (i : ℕ) → i < k → entryGood m (a + i) ≡ true
+pub entries-each : (m : List ℕ) (a k : ℕ) → entriesGood m a k ≡ true → (i : ℕ) → i < k → entryGood (a + i) (registerAt m (a + i)) ≡ true
 unfolding entriesGood
 entries-each m a zero h i l = absurd (omega arith)
-entries-each m a (suc k) h zero l = rw (add-zero a) (and-left (entryGood m a) (entriesGood m (a + 1) k) h)
+entries-each m a (suc k) h zero l = rw (add-zero a) (and-left (entryGood a (registerAt m a)) (entriesGood m (a + 1) k) h)
 entries-each m a (suc k) h (suc i) l =
     let e : a + suc i ≡ a + 1 + i = omega arith in
-    rw e (entries-each m (a + 1) k (and-right (entryGood m a) (entriesGood m (a + 1) k) h) i (omega arith))
+    rw e (entries-each m (a + 1) k (and-right (entryGood a (registerAt m a)) (entriesGood m (a + 1) k) h) i (omega arith))

@@ -2,7 +2,7 @@
 use mathlib.Core.Path.{_≡_, refl, _∙_}
 use mathlib.Core.Bool.{Bool, true, false, _&&_, _||_}
 use mathlib.Core.List.{List}
-use Prim.Native.Nat.{ℕ, _+_, _*_, _≤_, _<_}
+use Prim.Native.Nat.{ℕ, _+_, _-_, _*_, _≤_, _<_}
 use native.Mathlib.Nat.{zero-add}
 use native.Mathlib.Omega.{arith}
 use borrow.Author.Tests.{leb-true, eqb-true}
@@ -10,19 +10,19 @@ use lib.ListN.{length}
 use lib.Dec.{eqb}
 use Rattle.bits.specs.Tests.{every, unless}
 use Rattle.bits.proofs.Cases.{each, and-left, and-right, every-true}
-use Rattle.regmap.specs.Format.{lengthOf, countOf, registerAt, control}
-use Rattle.maptest.specs.MapTest.{formTests, Formed, kindRule, placeRule, entryGood, entriesGood, furtherTests, mapNumber}
+use Rattle.regmap.specs.Format.{lengthOf, countOf, leastCount, mostCount, lengthSize, entrySize, headOf, sizeOf, registerAt, control}
+use Rattle.maptest.specs.MapTest.{formTests, Formed, kindRule, places, placeRule, entryGood, entriesGood, furtherTests, mapNumber}
 use Rattle.maptest.proofs.Entries.{entries-each}
-use Rattle.maptest.proofs.Places.{placed-control}
+use Rattle.maptest.proofs.PlaceKinds.{placed-control}
 
 -- the tests of the form, each turned into its fact
 pub formed : (m : List ℕ) → every (formTests m) ≡ true → Formed m
 formed m h =
     let t = every-true (formTests m) h .1 .1 .1 in
     record {
-      least = leb-true 16 (countOf m) (t .0);
-      most = leb-true (countOf m) 8192 (t .1 .0);
-      whole = eqb-true (length m) (5 + 3 * countOf m) (t .1 .1 .0);
+      least = leb-true leastCount (countOf m) (t .0);
+      most = leb-true (countOf m) mostCount (t .1 .0);
+      whole = eqb-true (length m) (sizeOf m) (t .1 .1 .0);
     }
 
 both-pass : (a b : Bool) → unless a 2 (unless b 3 0) ≡ 0 → (a ≡ true) × (b ≡ true)
@@ -43,16 +43,17 @@ module _ (m : List ℕ) (good : mapNumber m ≡ 0) where
   unfolding mapNumber
   passed = both-pass (every (formTests m)) (entriesGood m 0 (countOf m) && every (furtherTests m)) good
 
-  pub good-form : length m ≡ 5 + 3 * countOf m
+  pub good-form : length m ≡ sizeOf m
   good-form = formed m (passed .0) .whole
 
-  pub good-length : lengthOf m ≡ 3 + 3 * countOf m
-  good-length = eqb-true (lengthOf m) (3 + 3 * countOf m) (every-true (formTests m) (passed .0) .1 .0)
+  pub good-length : lengthOf m ≡ headOf m - lengthSize + entrySize * countOf m
+  good-length = omega (arith, eqb-true (lengthSize + lengthOf m) (sizeOf m) (every-true (formTests m) (passed .0) .1 .0))
 
-  good-count : (16 ≤ countOf m) × (countOf m ≤ 8192)
+  good-count : (leastCount ≤ countOf m) × (countOf m ≤ mostCount)
   good-count = let f = formed m (passed .0) in (f .least, f .most)
 
-  good-entry : (a : ℕ) → a < countOf m → entryGood m a ≡ true
+  -- each entry of a good map is good
+  pub good-entry : (a : ℕ) → a < countOf m → entryGood a (registerAt m a) ≡ true
   good-entry a h =
       rw zero-add at
       (entries-each m 0 (countOf m) (and-left (entriesGood m 0 (countOf m)) (every (furtherTests m)) (passed .1)) a h)
@@ -65,7 +66,7 @@ module _ (m : List ℕ) (good : mapNumber m ≡ 0) where
       (and-right (kindRule (registerAt m a)) (placeRule a (registerAt m a .kind)) (good-entry a h))
 
   -- each place that is one of the three holds control
-  control-at : (a : ℕ) → a < 16 → (eqb a 0x0000 || (eqb a 0x0001 || eqb a 0x000F)) ≡ true → registerAt m a .kind ≡ control
+  control-at : (a : ℕ) → a < places → (eqb a 0x0000 || (eqb a 0x0001 || eqb a 0x000F)) ≡ true → registerAt m a .kind ≡ control
   control-at a l t = eqb-true (registerAt m a .kind) control (control-exactly a (omega (arith, good-count)) ∙ t)
 
   pub control-15 : registerAt m 0x000F .kind ≡ control

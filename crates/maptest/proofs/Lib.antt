@@ -1,3 +1,3 @@
 mod Entries
-mod Places
+pub mod PlaceKinds
 pub mod Laws

@@ -7,24 +7,25 @@ use lib.ListN.{length, getD}
 use lib.Dec.{eqb, leb}
 use Rattle.bits.specs.Tests.{every, unless}
 use Rattle.regmap.specs.declared.Entry.{Entry}
-use Rattle.regmap.specs.Format.{lengthOf, versionOf, countOf, blank, readOnly, plain, buffered, control, registerAt}
+use Rattle.regmap.specs.Format.{lengthOf, versionOf, countOf, leastCount, mostCount, lengthSize, headSize, sizeOf}
+use Rattle.regmap.specs.Format.{blank, readOnly, plain, buffered, control, registerAt}
 
 -- Number 2: fewer than 5 bytes; length, version or n wrong; or a slice that is not as long as the map.
 abbrev pub formTests : List ℕ → List Bool
 formTests m =
-    leb 5 (length m)
-    ∷ eqb (lengthOf m) (3 + 3 * countOf m)
+    leb headSize (length m)
+    ∷ eqb (lengthSize + lengthOf m) (sizeOf m)
     ∷ eqb (versionOf m) 1
-    ∷ leb 16 (countOf m)
-    ∷ leb (countOf m) 8192
-    ∷ eqb (length m) (5 + 3 * countOf m)
+    ∷ leb leastCount (countOf m)
+    ∷ leb (countOf m) mostCount
+    ∷ eqb (length m) (sizeOf m)
     ∷ []
 
 -- What good form gives: n is 16 to 8,192, and all the entries are there.
 pub record Formed (m : List ℕ) : Type 0 where
-  pub least : 16 ≤ countOf m
-  pub most : countOf m ≤ 8192
-  pub whole : length m ≡ 5 + 3 * countOf m
+  pub least : leastCount ≤ countOf m
+  pub most : countOf m ≤ mostCount
+  pub whole : length m ≡ sizeOf m
 
 -- The entry rule: what each kind asks of mask and default.
 unfoldable pub kindRule : Entry → Bool
@@ -40,24 +41,32 @@ kindRule e =
 abbrev pub free : ℕ
 free = 9
 
--- The kind that each address from 0x0000 to 0x000F asks for.
+-- The places that ask for a kind: 0x0000 to 0x000F.
+abbrev pub places : ℕ
+places = 16
+
+-- The kind that each of them asks for.
 abbrev pub placeKinds : List ℕ
 placeKinds =
     control ∷ control ∷ free ∷ readOnly ∷ readOnly ∷ readOnly ∷ readOnly ∷ blank
     ∷ free ∷ free ∷ plain ∷ readOnly ∷ readOnly ∷ readOnly ∷ blank ∷ control ∷ []
 
+-- The kind that an address asks for; from 0x0010 on all places are free.
+abbrev pub placeKind : ℕ → ℕ
+placeKind address = getD placeKinds address free
+
 -- The kind fits the place: control exactly at 0x0000, 0x0001 and 0x000F, and the further rules' kinds.
 unfoldable pub placeRule : ℕ → ℕ → Bool
-placeRule address kind =
-    cond (eqb (getD placeKinds address free) free) (not (eqb kind control)) (eqb kind (getD placeKinds address free))
+placeRule address kind = cond (eqb (placeKind address) free) (not (eqb kind control)) (eqb kind (placeKind address))
 
-unfoldable pub entryGood : List ℕ → ℕ → Bool
-entryGood m a = kindRule (registerAt m a) && placeRule a (registerAt m a .kind)
+-- One entry, at its address.
+unfoldable pub entryGood : ℕ → Entry → Bool
+entryGood address e = kindRule e && placeRule address (e .kind)
 
 -- k entries, from address a on
 unfoldable pub entriesGood : List ℕ → ℕ → ℕ → Bool
 entriesGood m a zero = true
-entriesGood m a (suc k) = entryGood m a && entriesGood m (a + 1) k
+entriesGood m a (suc k) = entryGood a (registerAt m a) && entriesGood m (a + 1) k
 
 -- the product number: 0x0004 low, 0x0005 high
 abbrev pub productOf : List ℕ → ℕ

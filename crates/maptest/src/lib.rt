@@ -3,49 +3,42 @@ ghost use mathlib.Core.Path.{_≡_};
 ghost use Prim.Native.Nat.{_<_, _-_};
 ghost use Rattle.bits.specs.Tests.{every};
 ghost use Rattle.regmap.specs.Format.{countOf, registerAt};
-ghost use Rattle.maptest.specs.MapTest.{formTests, Formed, kindRule, placeRule, entriesGood, furtherTests, mapNumber};
+ghost use Rattle.maptest.specs.MapTest.{formTests, Formed, kindRule, places, entriesGood, furtherTests, mapNumber};
+
+mod places;
+
+pub use places::FREE;
+use places::PLACES;
+use places::place_good;
+pub use places::place_kind;
 use regmap::BLANK;
 use regmap::BUFFERED;
 use regmap::CONTROL;
+use regmap::ENTRY_SIZE;
 use regmap::Entry;
+use regmap::HEAD_SIZE;
+use regmap::LEAST_COUNT;
+use regmap::LENGTH_SIZE;
+use regmap::MOST_COUNT;
 use regmap::PLAIN;
 use regmap::READ_ONLY;
 use regmap::count;
-
-// A place where any kind but control may stand.
-const FREE: u8 = 9;
-
-// The kind that each address from 0x0000 to 0x000F asks for.
-const PLACE_KINDS: [u8; 16] = [
-    CONTROL,
-    CONTROL,
-    FREE,
-    READ_ONLY,
-    READ_ONLY,
-    READ_ONLY,
-    READ_ONLY,
-    BLANK,
-    FREE,
-    FREE,
-    PLAIN,
-    READ_ONLY,
-    READ_ONLY,
-    READ_ONLY,
-    BLANK,
-    CONTROL,
-];
 
 // Whether the head is right and the slice as long as the map.
 fn form_good(map: &[u8]) -> bool
     ensures { λ r. ⌜ r ≡ every (formTests (now (map .entry))) ⌝ }
 {
-    if map.len() < 5 {
+    if map.len() < HEAD_SIZE {
         return false;
     }
     let n = count(map);
-    let entries = 3 * n;
+    let size = HEAD_SIZE + ENTRY_SIZE * n;
     let length = map[0] as usize * 256 + map[1] as usize;
-    (length == 3 + entries) & (map[2] == 1) & (16 <= n) & (n <= 8192) & (map.len() == 5 + entries)
+    (LENGTH_SIZE + length == size)
+        & (map[2] == 1)
+        & (LEAST_COUNT <= n)
+        & (n <= MOST_COUNT)
+        & (map.len() == size)
 }
 
 // The entry of a register that the map has.
@@ -53,7 +46,7 @@ fn register_at(map: &[u8], address: usize) -> Entry
     requires { ⌜ (Formed (now map)) × (address < countOf (now map)) ⌝ }
     ensures { λ r. ⌜ r ≡ registerAt (now (map .entry)) address ⌝ }
 {
-    let at = 5 + 3 * address;
+    let at = HEAD_SIZE + ENTRY_SIZE * address;
     Entry {
         kind: map[at],
         mask: map[at + 1],
@@ -70,27 +63,14 @@ fn kind_good(entry: Entry) -> bool
     changes | (entry.mask == 0) & ((entry.kind == READ_ONLY) | fixed & (entry.default == 0))
 }
 
-// Whether a kind fits one of the first sixteen places.
-fn place_good(address: usize, kind: u8) -> bool
-    requires { ⌜ address < 16 ⌝ }
-    ensures { λ r. ⌜ r ≡ placeRule address kind ⌝ }
-{
-    let place = PLACE_KINDS[address];
-    if place == FREE {
-        kind != CONTROL
-    } else {
-        kind == place
-    }
-}
-
 // Whether the entries from 0x0000 to 0x000F are good.
 fn places_good(map: &[u8]) -> bool
     requires { ⌜ Formed (now map) ⌝ }
-    ensures { λ r. ⌜ r ≡ entriesGood (now (map .entry)) 0 16 ⌝ }
+    ensures { λ r. ⌜ r ≡ entriesGood (now (map .entry)) 0 places ⌝ }
 {
     let mut good = true;
     let mut address = 0;
-    while address < 16 {
+    while address < PLACES {
         let entry = register_at(map, address);
         good = good & kind_good(entry) & place_good(address, entry.kind);
         address += 1;
@@ -101,11 +81,11 @@ fn places_good(map: &[u8]) -> bool
 // Whether the entries from 0x0010 on are good: all places there are free.
 fn others_good(map: &[u8]) -> bool
     requires { ⌜ Formed (now map) ⌝ }
-    ensures { λ r. ⌜ r ≡ entriesGood (now (map .entry)) 16 (countOf (now (map .entry)) - 16) ⌝ }
+    ensures { λ r. ⌜ r ≡ entriesGood (now (map .entry)) places (countOf (now (map .entry)) - places) ⌝ }
 {
     let n = count(map);
     let mut good = true;
-    let mut address = 16;
+    let mut address = PLACES;
     while address < n {
         let entry = register_at(map, address);
         good = good & kind_good(entry) & (entry.kind != CONTROL);

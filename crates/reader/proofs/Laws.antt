@@ -48,7 +48,7 @@ read-ready m w xs records n e z =
     record {
       sound = t .sound;
       few = leb-true (length xs) 65536 (and-left (leb (length xs) 65536) (samplesGood xs) (t .samples));
-      mapped = λ p. fits-mapped m (w .banks) (t .good-map) (t .fits);
+      mapped = λ p. fits-mapped m (w .banks) (t .fits);
       room = λ p. omega (arith, records-size m xs w, leb-true (recordSize * recordCount (w .session) xs) (length records) (t .enough));
     }
 

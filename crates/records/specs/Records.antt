@@ -1,8 +1,9 @@
 -- Document 01, "Records": the bytes of each event.
-use Prim.Native.Nat.{ℕ, _/_, _%_}
+use Prim.Native.Nat.{ℕ}
 use mathlib.Core.Bool.{Bool, cond}
-use mathlib.Core.List.{List, [], _∷_}
+use mathlib.Core.List.{List, [], _∷_, _++_}
 use lib.Dec.{eqb}
+use Rattle.bits.specs.Bytes.{wordBytes}
 use Rattle.settings.specs.declared.Settings.{Settings}
 use Rattle.session.specs.declared.Event.{Event}
 use Rattle.session.specs.declared.Event.the-variants.{Nothing, Whole, Aborted}
@@ -13,7 +14,7 @@ use Rattle.writing.specs.Write.{writtenOf}
 
 -- kind, address (big-endian), and three bytes by kind
 abbrev pub recordBytes : ℕ → ℕ → ℕ → ℕ → ℕ → List ℕ
-recordBytes kind address third fourth fifth = kind ∷ address / 256 ∷ address % 256 ∷ third ∷ fourth ∷ fifth ∷ []
+recordBytes kind address third fourth fifth = kind ∷ (wordBytes address ++ (third ∷ fourth ∷ fifth ∷ []))
 
 -- a write of v: v, the byte of the stage written or the control reading, and the effect
 abbrev pub writeRecord : ℕ → ℕ → Written → List ℕ

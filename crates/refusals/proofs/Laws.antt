@@ -13,7 +13,7 @@ use Rattle.bits.proofs.Cases.{yes, no, and-left, and-right}
 use Rattle.sizes.specs.Sizes.{recordSize}
 use Rattle.regmap.specs.Format.{countOf}
 use Rattle.maptest.specs.MapTest.{mapNumber}
-use Rattle.maptest.proofs.Laws.{good-form, map-number-most}
+use Rattle.maptest.proofs.Laws.{map-number-most}
 use Rattle.session.specs.State.{soundSession}
 use Rattle.registers.specs.Banks.{Banks, Mapped}
 use Rattle.run.specs.Reading.{World, recordCount}
@@ -48,12 +48,11 @@ opens m b e =
     let t = passed-map (mapNumber m) _ e in
     (t .0, passed (banksFit m b) 4 0 (λ q. omega arith) (t .1) .0)
 
-pub fits-mapped : (m : List ℕ) (b : Banks) → mapNumber m ≡ 0 → banksFit m b ≡ true → Mapped m b
-fits-mapped m b z f =
+pub fits-mapped : (m : List ℕ) (b : Banks) → banksFit m b ≡ true → Mapped m b
+fits-mapped m b f =
     let active = eqb (length (b .active)) (countOf m) in
     let buffer = eqb (length (b .buffer)) (countOf m) in
     record {
-      entries = good-form m z;
       active-size = eqb-true (length (b .active)) (countOf m) (and-left active buffer f);
       buffer-size = eqb-true (length (b .buffer)) (countOf m) (and-right active buffer f);
     }

@@ -2,7 +2,7 @@
 use mathlib.Core.Path.{_≡_, refl, sym, _∙_}
 use mathlib.Core.Bool.{Bool, true, false, cond}
 use mathlib.Core.List.{List}
-use Prim.Native.Nat.{ℕ, _+_, _*_, _<_}
+use Prim.Native.Nat.{ℕ, _+_, _<_}
 use native.Mathlib.Omega.{arith}
 use borrow.Author.Tests.{ltb-true, ltb-false}
 use lib.ListN.{length, getD, replicate, length-replicate}
@@ -48,10 +48,9 @@ pub getD-transfer : (m active buffer : List ℕ) (i : ℕ) → i < length active
 getD-transfer m active buffer i h =
     let e : 0 + i ≡ i = omega arith in rw e at (getD-rest (transfer-rule m buffer) 0 active i h)
 
-pub mapped-defaults : (m : List ℕ) → length m ≡ 5 + 3 * countOf m → Mapped m (defaultBanks m)
+pub mapped-defaults : (m : List ℕ) → Mapped m (defaultBanks m)
 unfolding defaultBanks
-mapped-defaults m h = record {
-  entries = h;
+mapped-defaults m = record {
   active-size = length-defaults m (countOf m);
   buffer-size = length-defaults m (countOf m);
 }
@@ -59,7 +58,6 @@ mapped-defaults m h = record {
 pub mapped-transfer : {m : List ℕ} {b : Banks} → Mapped m b → Mapped m (transferred m b)
 unfolding transferred
 mapped-transfer {m} {b} h = record {
-  entries = h .entries;
   active-size = length-transfer m (b .active) (b .buffer) ∙ h .active-size;
   buffer-size = h .buffer-size;
 }

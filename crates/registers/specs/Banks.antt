@@ -1,5 +1,5 @@
 -- Document 01, "Registers and session": two lent banks of n bytes hold the active and the buffer stage.
-use Prim.Native.Nat.{ℕ, zero, suc, _+_, _*_}
+use Prim.Native.Nat.{ℕ, zero, suc, _+_}
 use mathlib.Core.Path.{_≡_}
 use mathlib.Core.Bool.{cond}
 use mathlib.Core.List.{List, [], _∷_}
@@ -14,9 +14,8 @@ pub record Banks : Type 0 where
 abbrev pub banks : List ℕ → List ℕ → Banks
 banks active buffer = record { active = active; buffer = buffer }
 
--- What every good map and its banks give: all the entries are there, and each bank has n bytes.
+-- Banks that fit a map: each has n bytes.
 pub record Mapped (m : List ℕ) (b : Banks) : Type 0 where
-  pub entries : length m ≡ 5 + 3 * countOf m
   pub active-size : length (b .active) ≡ countOf m
   pub buffer-size : length (b .buffer) ≡ countOf m
 

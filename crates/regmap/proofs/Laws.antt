@@ -2,14 +2,15 @@
 use mathlib.Core.Path.{_≡_}
 use mathlib.Core.Bool.{Bool, cond}
 use mathlib.Core.List.{List}
-use Prim.Native.Nat.{ℕ, _+_, _*_, _^_, _≤_, _<_}
+use Prim.Native.Nat.{ℕ, _+_, _^_, _≤_, _<_}
 use native.Mathlib.Nat.{add-zero}
 use native.Mathlib.Omega.{arith}
 use borrow.Author.Tests.{lt-ltb, le-ltb}
 use lib.Dec.{ltb}
+use Rattle.bits.specs.Bytes.{byteAt}
 use Rattle.bits.proofs.Cases.{each}
 use Rattle.regmap.specs.declared.Entry.{Entry}
-use Rattle.regmap.specs.Format.{byteAt, countOf, entryAt}
+use Rattle.regmap.specs.Format.{countOf, entryStart, entryAt}
 
 -- n is two bytes
 pub count-fits : (m : List ℕ) → ((i : ℕ) → byteAt m i < 2 ^ 8) → countOf m < 2 ^ 16
@@ -20,18 +21,16 @@ count-fits m byte = omega (arith, byte 3, byte 4)
 abbrev parts : Bool → List ℕ → ℕ → Entry
 parts has m at = record { kind = cond has (byteAt m (at + 0)) 0; mask = cond has (byteAt m (at + 1)) 0; default = cond has (byteAt m (at + 2)) 0 }
 
-pub entry-parts : (m : List ℕ) (n a : ℕ) → entryAt m n a ≡ parts (ltb a n) m (5 + 3 * a)
+pub entry-parts : (m : List ℕ) (n a : ℕ) → entryAt m n a ≡ parts (ltb a n) m (entryStart m a)
 unfolding entryAt
 entry-parts m n a =
-    let second : 6 + 3 * a ≡ 5 + 3 * a + 1 = omega arith in
-    let third : 7 + 3 * a ≡ 5 + 3 * a + 2 = omega arith in
-    each (λ (e : Entry). e ≡ parts (ltb a n) m (5 + 3 * a)) (ltb a n) (λ t. rw (t, second, third, add-zero (5 + 3 * a))) (λ t. rw t)
+    each (λ (e : Entry). e ≡ parts (ltb a n) m (entryStart m a)) (ltb a n) (λ t. rw (t, add-zero (entryStart m a))) (λ t. rw t)
 
 -- an entry that the map has is three bytes in a row
 pub entry-bytes :
     (m : List ℕ) (n a : ℕ) → a < n
-    → record { kind = byteAt m (5 + 3 * a); mask = byteAt m (5 + 3 * a + 1); default = byteAt m (5 + 3 * a + 2) } ≡ entryAt m n a
-entry-bytes m n a h = rw (entry-parts m n a, lt-ltb a n h, add-zero (5 + 3 * a))
+    → record { kind = byteAt m (entryStart m a); mask = byteAt m (entryStart m a + 1); default = byteAt m (entryStart m a + 2) } ≡ entryAt m n a
+entry-bytes m n a h = rw (entry-parts m n a, lt-ltb a n h, add-zero (entryStart m a))
 
 pub entry-beyond : (m : List ℕ) (n a : ℕ) → n ≤ a → entryAt m n a .kind ≡ 0
 entry-beyond m n a h = rw (entry-parts m n a, le-ltb a n h)

@@ -2,17 +2,9 @@
 use Prim.Native.Nat.{ℕ, _+_, _*_}
 use mathlib.Core.Bool.{cond}
 use mathlib.Core.List.{List}
-use lib.ListN.{getD}
 use lib.Dec.{ltb}
+use Rattle.bits.specs.Bytes.{byteAt, wordAt}
 use Rattle.regmap.specs.declared.Entry.{Entry}
-
--- the byte at a place, 0 beyond the end
-abbrev pub byteAt : List ℕ → ℕ → ℕ
-byteAt m i = getD m i 0
-
--- sixteen bits, big-endian
-abbrev pub wordAt : List ℕ → ℕ → ℕ
-wordAt m i = byteAt m i * 256 + byteAt m (i + 1)
 
 -- the length of all that follows the length
 abbrev pub lengthOf : List ℕ → ℕ
@@ -24,6 +16,44 @@ versionOf m = byteAt m 2
 -- n, the number of registers
 unfoldable pub countOf : List ℕ → ℕ
 countOf m = wordAt m 3
+
+-- n is 16 to 8,192
+abbrev pub leastCount : ℕ
+leastCount = 16
+
+abbrev pub mostCount : ℕ
+mostCount = 8192
+
+-- the bytes of the length itself, which it does not count
+abbrev pub lengthSize : ℕ
+lengthSize = 2
+
+-- the bytes of the head: length, version and n
+abbrev pub headSize : ℕ
+headSize = 5
+
+-- the bytes of an entry: kind, mask and default
+abbrev pub entrySize : ℕ
+entrySize = 3
+
+-- where the entries begin
+abbrev pub headOf : List ℕ → ℕ
+headOf m = headSize
+
+-- where the entry at an address begins
+abbrev pub entryStart : List ℕ → ℕ → ℕ
+entryStart m a = headOf m + entrySize * a
+
+-- the bytes of the smallest and of the largest map
+abbrev pub leastSize : ℕ
+leastSize = headSize + entrySize * leastCount
+
+abbrev pub mostSize : ℕ
+mostSize = headSize + entrySize * mostCount
+
+-- the bytes of the whole: the head and n entries
+abbrev pub sizeOf : List ℕ → ℕ
+sizeOf m = entryStart m (countOf m)
 
 -- the kinds of register
 abbrev pub blank : ℕ
@@ -45,7 +75,7 @@ control = 4
 unfoldable pub entryAt : List ℕ → ℕ → ℕ → Entry
 entryAt m n a =
     cond (ltb a n)
-    (record { kind = byteAt m (5 + 3 * a); mask = byteAt m (6 + 3 * a); default = byteAt m (7 + 3 * a) })
+    (record { kind = byteAt m (entryStart m a); mask = byteAt m (entryStart m a + 1); default = byteAt m (entryStart m a + 2) })
     (record { kind = blank; mask = 0; default = 0 })
 
 -- entry i is the register at address i

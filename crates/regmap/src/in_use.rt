@@ -1,15 +1,18 @@
 // A map in use: it refers to the lent map bytes and copies none of them.
 ghost use mathlib.Core.Path.{_≡_};
 ghost use mathlib.Core.Bool.{cond};
-ghost use Prim.Native.Nat.{_+_, _*_};
+ghost use Prim.Native.Nat.{_+_};
 ghost use lib.Dec.{ltb};
-ghost use Rattle.regmap.specs.Format.{byteAt, entryAt};
+ghost use Rattle.bits.specs.Bytes.{byteAt};
+ghost use Rattle.regmap.specs.Format.{entryStart, entryAt};
+use crate::ENTRY_SIZE;
 use crate::Entry;
+use crate::HEAD_SIZE;
 use crate::byte_at;
 
 // A byte of the entry at an address of a map of `count` registers, counted from the entry's first; 0 beyond them.
 fn part_at(map: &[u8], count: usize, address: usize, part: u8) -> u8
-    ensures { λ r. ⌜ r ≡ cond (ltb address count) (byteAt (now (map .entry)) (5 + 3 * address + part)) 0 ⌝ }
+    ensures { λ r. ⌜ r ≡ cond (ltb address count) (byteAt (now (map .entry)) (entryStart (now (map .entry)) address + part)) 0 ⌝ }
 {
     if count <= address {
         return 0;
@@ -18,7 +21,7 @@ fn part_at(map: &[u8], count: usize, address: usize, part: u8) -> u8
     if 0x4000_0000_0000_0000 <= address {
         return 0;
     }
-    byte_at(map, 5 + 3 * address + part as usize)
+    byte_at(map, HEAD_SIZE + ENTRY_SIZE * address + part as usize)
 }
 
 // The kind of the register at an address.

@@ -1,6 +1,7 @@
 // The register map: bytes that a caller lends. Nothing of them is copied.
 ghost use mathlib.Core.Path.{_≡_};
-ghost use Rattle.regmap.specs.Format.{byteAt, countOf};
+ghost use Rattle.bits.specs.Bytes.{byteAt};
+ghost use Rattle.regmap.specs.Format.{countOf};
 
 mod in_use;
 
@@ -17,6 +18,23 @@ pub const PLAIN: u8 = 2;
 pub const BUFFERED: u8 = 3;
 
 pub const CONTROL: u8 = 4;
+
+// The least and the most registers of a map.
+pub const LEAST_COUNT: usize = 16;
+
+pub const MOST_COUNT: usize = 8192;
+
+// The bytes of the length, which it does not count; of the head, which is length, version and n; and of an entry.
+pub const LENGTH_SIZE: usize = 2;
+
+pub const HEAD_SIZE: usize = 5;
+
+pub const ENTRY_SIZE: usize = 3;
+
+// The bytes of the smallest and of the largest map.
+pub const LEAST_SIZE: usize = HEAD_SIZE + ENTRY_SIZE * LEAST_COUNT;
+
+pub const MOST_SIZE: usize = HEAD_SIZE + ENTRY_SIZE * MOST_COUNT;
 
 // What the map says of the register at one address.
 pub struct Entry {

@@ -78,11 +78,11 @@ module _ {m : List ℕ} {b : Banks} (h : Mapped m b) where
   mapped-applied : (a : ℕ) (e : Effect) → Mapped m (applied m b a e)
   unfolding applied
   mapped-applied a Nothing = h
-  mapped-applied a (Active byte) = record { entries = h .entries; active-size = simp length-set (h .active-size); buffer-size = h .buffer-size }
-  mapped-applied a (Buffer byte) = record { entries = h .entries; active-size = h .active-size; buffer-size = simp length-set (h .buffer-size) }
+  mapped-applied a (Active byte) = record { active-size = simp length-set (h .active-size); buffer-size = h .buffer-size }
+  mapped-applied a (Buffer byte) = record { active-size = h .active-size; buffer-size = simp length-set (h .buffer-size) }
   mapped-applied a Control = h
   mapped-applied a Transfer = mapped-transfer h
-  mapped-applied a Reset = mapped-defaults m (h .entries)
+  mapped-applied a Reset = mapped-defaults m
 
   pub mapped-write : (a v : ℕ) → Mapped m (writeBanks m b a v)
   unfolding writeBanks

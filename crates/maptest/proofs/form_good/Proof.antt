@@ -6,6 +6,7 @@ use borrow.Author.Needs.{needs}
 use borrow.Author.Tests.{lt-leb, le-leb}
 use lib.ListN.{length}
 use Rattle.bits.proofs.Cases.{joined-every}
+use Rattle.regmap.specs.Format.{headSize}
 use Rattle.regmap.proofs.Laws.{count-fits}
 use Rattle.maptest.specs.MapTest.{formTests}
 use Rattle.maptest.proofs.form_good.Statement.{statement}
@@ -19,14 +20,17 @@ small c =
 returns : tie.Need-returns
 returns c =
     let m = c .before .before .args .map .now in
-    let short = lt-leb 5 (length m) (c .if1 .taken) in
+    let short = lt-leb headSize (length m) (c .if1 .taken) in
     rw short (rw short at (joined-every true (formTests m)))
 
 count-requires : tie.Need-count-requires
 count-requires c κs = search needs
 
-mul-entries : tie.Need-mul-entries
-mul-entries c = omega (arith, small c)
+mul-size : tie.Need-mul-size
+mul-size c = omega (arith, small c)
+
+add-size : tie.Need-add-size
+add-size c = omega (arith, small c)
 
 shared-slice-read-length : tie.Need-shared-slice-read-length
 shared-slice-read-length c = search needs
@@ -47,19 +51,16 @@ add-length : tie.Need-add-length
 add-length c = let byte = c .shared-slice-known3 .given in omega (arith, byte 0, byte 1)
 
 add-result : tie.Need-add-result
-add-result c = omega (arith, small (c .before .before))
+add-result c = let byte = c .shared-slice-known3 .given in omega (arith, byte 0, byte 1)
 
 shared-slice-read-result : tie.Need-shared-slice-read-result
 shared-slice-read-result c = search needs
-
-add-result-2 : tie.Need-add-result-2
-add-result-2 c = omega (arith, small (c .before .before .before))
 
 returns-2 : tie.Need-returns-2
 returns-2 c =
     let n = c .before .before .before in
     let m = n .before .before .before .args .map .now in
-    let long = le-leb 5 (length m) (omega arith) in
+    let long = le-leb headSize (length m) (omega arith) in
     rw (n .count .ensures, long) (rw long at (joined-every true (formTests m)))
 
 pub form-good-spec : {M : Type 1} → statement M
@@ -68,7 +69,8 @@ form-good-spec =
     (tie.spec
     returns
     count-requires
-    mul-entries
+    mul-size
+    add-size
     shared-slice-read-length
     cast-length
     mul-length
@@ -77,5 +79,4 @@ form-good-spec =
     add-length
     add-result
     shared-slice-read-result
-    add-result-2
     returns-2)

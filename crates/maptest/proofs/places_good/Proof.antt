@@ -4,19 +4,19 @@ use Prim.Native.Nat.{_-_}
 use native.Mathlib.Omega.{arith}
 use borrow.Author.Needs.{needs}
 use Rattle.regmap.specs.declared.Entry.{Entry}
-use Rattle.maptest.specs.MapTest.{kindRule, placeRule}
+use Rattle.maptest.specs.MapTest.{kindRule, places, placeRule}
 use Rattle.maptest.proofs.Entries.{Tested, begun, again, ended}
 use Rattle.maptest.proofs.places_good.Statement.{statement}
 use Rattle.maptest.proofs.places_good.Tie as tie
 
 abbrev Inv-loop : tie.InvT-loop
-Inv-loop map good₀ address₀ good address = Tested map 0 16 good address
+Inv-loop map good₀ address₀ good address = Tested map 0 places good address
 
 abbrev μ-loop : tie.MeasureT-loop
-μ-loop map good₀ address₀ good address = 16 - address
+μ-loop map good₀ address₀ good address = places - address
 
 loop-holds : tie.Need-loop-holds Inv-loop μ-loop
-loop-holds c = begun _ 0 16 (omega arith)
+loop-holds c = begun _ 0 places (omega arith)
 
 register-at-requires : tie.Need-register-at-requires Inv-loop μ-loop
 register-at-requires c κs = search needs
@@ -38,12 +38,12 @@ loop-again c =
     let k = c .before in
     let entry = k .before in
     let at = entry .before .before .loop in
-    again _ 0 16 (at .good) (at .address) (at .inv) (k .kind-good .result) (c .place-good .result) (entry .before .loop-test .taken)
+    again _ 0 places (at .good) (at .address) (at .inv) (k .kind-good .result) (c .place-good .result) (entry .before .loop-test .taken)
     (k .kind-good .ensures ∙ ap kindRule (entry .register-at .ensures))
     (c .place-good .ensures ∙ ap (λ (e : Entry). placeRule (at .address) (e .kind)) (entry .register-at .ensures))
 
 returns : tie.Need-returns Inv-loop μ-loop
-returns c = let at = c .before .loop in ended _ 0 16 (at .good) (at .address) (at .inv) (c .loop-test .left)
+returns c = let at = c .before .loop in ended _ 0 places (at .good) (at .address) (at .inv) (c .loop-test .left)
 
 pub places-good-spec : {M : Type 1} → statement M
 places-good-spec =

@@ -18,7 +18,7 @@ opened-requires c κs = search needs
 reset-requires : tie.Need-reset-requires
 reset-requires c κs =
     let t = opens _ _ (sym (c .before .before .before .before .open-refusal .ensures) ∙ c .before .before .if1 .taken) in
-    fits-mapped _ _ (t .0) (t .1)
+    fits-mapped _ _ (t .1)
 
 same-length : tie.Need-same-length
 same-length c = c .before .before .before .before .reset .kept .1 .0

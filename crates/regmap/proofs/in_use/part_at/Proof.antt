@@ -1,11 +1,12 @@
 -- `regmap::in_use::part_at` meets its contract: 0 beyond the map, also where no slice has the byte, and a byte of the map inside it.
 use mathlib.Core.Path.{refl, sym}
-use Prim.Native.Nat.{_+_, _*_}
+use Prim.Native.Nat.{_+_}
 use native.Mathlib.Omega.{arith}
 use borrow.Author.Needs.{needs}
 use borrow.Author.Tests.{lt-ltb, le-ltb}
 use lib.ListN.{List·getD-eq-default}
 use Rattle.bits.proofs.Cases.{yes, no}
+use Rattle.regmap.specs.Format.{entryStart}
 use Rattle.regmap.proofs.in_use.part_at.Statement.{statement}
 use Rattle.regmap.proofs.in_use.part_at.Tie as tie
 
@@ -18,7 +19,7 @@ returns-2 : tie.Need-returns-2
 returns-2 c =
     let a = c .before .before .before .args in
     yes _ (lt-ltb (a .address) (a .count) (omega arith))
-    (sym (List·getD-eq-default (a .map .now) 0 {n = 5 + 3 * a .address + a .part} (omega arith)))
+    (sym (List·getD-eq-default (a .map .now) 0 {n = entryStart (a .map .now) (a .address) + a .part} (omega arith)))
 
 mul-byte-at : tie.Need-mul-byte-at
 mul-byte-at c = search needs
