@@ -1,3 +1,4 @@
 pub mod Buffer
+pub mod Putting
 pub mod Cases
 pub mod Laws

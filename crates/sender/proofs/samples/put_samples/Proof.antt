@@ -4,11 +4,11 @@ use mathlib.Core.List.{_++_}
 use native.Mathlib.Omega.{arith}
 use lib.ListN.{length}
 use borrow.Author.Needs.{needs}
+use Rattle.bits.proofs.Putting.{Putting, begun, next-fits, further, ended}
 use Rattle.order.specs.Order.{Order, withData}
 use Rattle.order.specs.Samples.{samplesOf}
 use Rattle.sender.specs.Run.{closingSamples}
 use Rattle.order.proofs.Laws.{Admitted, admitted}
-use Rattle.sender.proofs.Putting.{Putting, begun, next-fits, further, ended}
 use Rattle.sender.proofs.Parts.{allBytes, opening-first, bytes-next, closing-last}
 use Rattle.sender.proofs.samples.put_samples.Statement.{statement}
 use Rattle.sender.proofs.samples.put_samples.Tie as tie
