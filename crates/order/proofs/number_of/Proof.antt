@@ -28,7 +28,7 @@ returns-2 c =
 returns-3 : tie.Need-returns-3
 returns-3 c =
     number-9 (asked (c .before .before .before .before .before .before .before .before)) _ (not-false _ (c .before .before .before .before .if1 .left))
-    (sym (c .before .before .before .count-fits .ensures) ∙ not-false _ (c .before .before .if2 .left)) (c .if3 .taken)
+    (sym (c .before .before .before .count-fits .ensures) ∙ not-false _ (c .before .before .if2 .left)) (omega arith)
 
 -- an order that has passed the tests of 7, 8 and 9
 abbrev near : tie.Else3 → Order
