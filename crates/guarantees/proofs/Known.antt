@@ -17,7 +17,7 @@ use Rattle.records.specs.Records.{recordOf}
 use Rattle.records.specs.BanksAfter.{banksAfter}
 use Rattle.run.specs.Reading.{runOf, recordsOf}
 use Rattle.order.specs.Order.{runFrom}
-use Rattle.order.specs.Samples.{highFirst, lowFirst, bitsOf, byteBits, runBits, orderBits, clocked, samplesOf}
+use Rattle.order.specs.Samples.{highFirst, lowFirst, bitsOf, byteBits, runBits, orderBits, clocked, samplesOf, allSamples}
 use Rattle.order.proofs.Laws.{length-samples}
 use Rattle.guarantees.specs.Known.{KnownResults, writeThousand}
 
@@ -25,7 +25,7 @@ pub known-results : KnownResults
 unfolding bitAt merged every countOf entryAt kindRule placeRule entryGood entriesGood mapNumber
     settingsAfter controlReading withInstructionBit withDataBit stepOf bitEvent abortEvent eventOf
     defaultsFrom defaultBanks transferFrom transferred controlEffect effectOf applied writeBanks writtenBy dueByte recordOf banksAfter runOf recordsOf
-    runFrom highFirst lowFirst bitsOf byteBits runBits orderBits clocked samplesOf
+    runFrom highFirst lowFirst bitsOf byteBits runBits orderBits clocked samplesOf allSamples
 known-results = record {
   length-16 = λ m good n. (good-length m good ∙ ap (λ (k : ℕ). 3 + 3 * k) n, good-form m good ∙ ap (λ (k : ℕ). 5 + 3 * k) n);
   length-8192 = λ m good n. good-length m good ∙ ap (λ (k : ℕ). 3 + 3 * k) n;

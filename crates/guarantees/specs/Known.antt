@@ -14,7 +14,7 @@ use Rattle.registers.specs.Banks.{defaultBanks}
 use Rattle.registers.specs.Read.{dueByte}
 use Rattle.run.specs.Reading.{World, runOf, recordsOf}
 use Rattle.order.specs.Order.{Order}
-use Rattle.order.specs.Samples.{samplesOf, orderBits}
+use Rattle.order.specs.Samples.{orderBits, samplesOf, allSamples}
 use Rattle.guarantees.specs.StoppedRun.{stoppedSamples}
 
 -- a good map of 16 registers: each entry is kind, mask, default
@@ -38,10 +38,6 @@ writeOne settings a v = record { direction = 0; settings = settings; start = a; 
 abbrev pub writeThousand : ℕ → Order
 writeThousand settings = record { direction = 0; settings = settings; start = 0x0010; count = 1000; bytes = replicate 1000 0x07 }
 
-abbrev pub samplesOfAll : List Order → List ℕ
-samplesOfAll [] = []
-samplesOfAll (o ∷ os) = samplesOf o ++ samplesOfAll os
-
 -- a map after opening
 abbrev pub opened : List ℕ → World
 opened m = record { session = openedSession; banks = defaultBanks m }
@@ -52,7 +48,7 @@ recordsAfterOpening m xs = recordsOf m (opened m) xs
 
 -- the second map after opening and the samples of some orders, one after another
 abbrev pub after : List Order → World
-after orders = runOf map17 (opened map17) (samplesOfAll orders)
+after orders = runOf map17 (opened map17) (allSamples orders)
 
 -- the byte that 0x0010 is then due to answer
 abbrev pub due10 : World → ℕ

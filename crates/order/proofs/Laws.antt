@@ -7,7 +7,7 @@ use native.Mathlib.Omega.{arith}
 use native.Mathlib.Nat.{suc-ne-zero}
 use lib.ListN.{length, length-append, length-replicate}
 use lib.Dec.{leb}
-use borrow.Author.Tests.{leb-true, eqb-true, not-true}
+use borrow.Author.Tests.{leb-true, le-leb, eqb-true, not-true}
 use Rattle.bits.specs.Tests.{every, unless}
 use Rattle.bits.proofs.Cases.{and-left, and-right, every-true}
 use Rattle.settings.specs.Settings.{nextAddress}
@@ -115,19 +115,38 @@ passed : (test : Bool) (n next : ℕ) → unless test (suc n) next ≡ 0 → (te
 passed true n next h = (refl, h)
 passed false n next h = absurd (suc-ne-zero n h)
 
-pub admitted : (o : Order) (room : ℕ) → sendNumber o room ≡ 0 → Admitted o room
+-- the tests of a number of 0, but for that of the room
+record Passes (o : Order) : Type 0 where
+  known : (leb (o .direction) 1 && leb (o .settings) 7) ≡ true
+  counts : every (countTests o) ≡ true
+  starts : leb (o .start) 0x7FFF ≡ true
+  late : not (singleInstruction o && not (isRead o) && configuresEarly (runBytes o)) ≡ true
+
+passes : (o : Order) (room : ℕ) → sendNumber o room ≡ 0 → Passes o × (leb (length (samplesOf o)) room ≡ true)
 unfolding sendNumber
-admitted o room h =
+passes o room h =
     let h7 = passed _ 6 _ h in
     let h8 = passed _ 7 _ (h7 .1) in
     let h9 = passed _ 8 _ (h8 .1) in
     let h10 = passed _ 9 _ (h9 .1) in
     let h11 = passed _ 10 _ (h10 .1) in
+    (record { known = h7 .0; counts = h8 .0; starts = h9 .0; late = h10 .0 }, h11 .0)
+
+pub admitted : (o : Order) (room : ℕ) → sendNumber o room ≡ 0 → Admitted o room
+admitted o room h =
+    let p = passes o room h in
     record {
-      direction = leb-true _ _ (and-left (leb (o .direction) 1) (leb (o .settings) 7) (h7 .0));
-      settings = leb-true _ _ (and-right (leb (o .direction) 1) (leb (o .settings) 7) (h7 .0));
-      count = counted o (h8 .0);
-      start = leb-true _ _ (h9 .0);
-      not-early = not-true _ (h10 .0);
-      enough = leb-true _ _ (h11 .0);
+      direction = leb-true _ _ (and-left (leb (o .direction) 1) (leb (o .settings) 7) (p .0 .known));
+      settings = leb-true _ _ (and-right (leb (o .direction) 1) (leb (o .settings) 7) (p .0 .known));
+      count = counted o (p .0 .counts);
+      start = leb-true _ _ (p .0 .starts);
+      not-early = not-true _ (p .0 .late);
+      enough = leb-true _ _ (p .1);
     }
+
+-- An order that is taken with some room is taken with any that suffices.
+pub room-enough : (o : Order) (room room′ : ℕ) → sendNumber o room ≡ 0 → length (samplesOf o) ≤ room′ → sendNumber o room′ ≡ 0
+unfolding sendNumber
+room-enough o room room′ h enough =
+    let p = passes o room h .0 in
+    rw (p .known, p .counts, p .starts, p .late, le-leb (length (samplesOf o)) room′ enough)

@@ -6,6 +6,7 @@ use lib.ListN.{replicate}
 use lib.Dec.{eqb}
 use Rattle.bits.specs.Bits.{bitAt}
 use Rattle.settings.specs.Settings.{nextAddress}
+use Rattle.order.specs.declared.Order as declared
 
 -- as it is given: a direction (0 write, 1 read), a settings number, a start address, a count and the data
 pub record Order : Type 0 where
@@ -23,6 +24,10 @@ order direction settings start count bytes = record {
   count = count;
   bytes = bytes;
 }
+
+-- the order that the code hands on, with the data that is lent beside it
+abbrev pub withData : declared.Order → List ℕ → Order
+withData o bytes = order (o .direction) (o .settings) (o .start) (o .count) bytes
 
 abbrev pub isRead : Order → Bool
 isRead o = eqb (o .direction) 1

@@ -45,3 +45,8 @@ clocked (b ∷ bs) = (4 * bitOf b) ∷ (4 * bitOf b + 2) ∷ clocked bs
 -- 0x00; the bits; then 0x00 and 0x01
 unfoldable pub samplesOf : Order → List ℕ
 samplesOf o = 0x00 ∷ (clocked (orderBits o) ++ (0x00 ∷ 0x01 ∷ []))
+
+-- the samples of several orders, joined
+unfoldable pub allSamples : List Order → List ℕ
+allSamples [] = []
+allSamples (o ∷ os) = samplesOf o ++ allSamples os

@@ -3,18 +3,26 @@ ghost use mathlib.Core.Path.{_≡_};
 ghost use mathlib.Core.Bool.{cond, _&&_};
 ghost use Prim.Native.Nat.{_+_, _*_, _<_, _≤_};
 ghost use Rattle.bits.specs.Tests.{every};
-ghost use Rattle.order.specs.Order.{order, runFrom};
+ghost use Rattle.order.specs.Order.{withData, runFrom};
 ghost use Rattle.order.specs.Number.{configuresEarly, countTests, sendNumber};
 use bits::bit_at;
 use settings::next_address;
 
+// An order as it is given, with its data lent beside it: a direction, a settings number, a start address and a count.
+pub struct Order {
+    pub direction: u64,
+    pub settings: u64,
+    pub start: u64,
+    pub count: u64,
+}
+
 // Whether the count is 1 to 1,000, and the data as long as it says.
-fn count_fits(direction: u64, count: u64, data: &[u8]) -> bool
-    ensures { λ r. ⌜ r ≡ every (countTests (order direction 0 0 count (now («data» .entry)))) ⌝ }
+fn count_fits(order: Order, data: &[u8]) -> bool
+    ensures { λ r. ⌜ r ≡ every (countTests (withData order (now («data» .entry)))) ⌝ }
 {
     let length = data.len() as u64;
-    let due = if direction == 1 { 0 } else { count };
-    (1 <= count) & (count <= 1000) & (length == due)
+    let due = if order.direction == 1 { 0 } else { order.count };
+    (1 <= order.count) & (order.count <= 1000) & (length == due)
 }
 
 // Whether a write in single instruction has 0x0000 or 0x0001 anywhere but last.
@@ -50,31 +58,25 @@ fn sample_count(single: bool, count: usize) -> usize
 }
 
 // The number of an order with so much room: the lowest that applies, 0 where none does.
-pub fn number_of(
-    direction: u64,
-    settings: u64,
-    start: u64,
-    count: u64,
-    data: &[u8],
-    room: usize,
-) -> u8
-    ensures { λ r. ⌜ r ≡ sendNumber (order direction settings start count (now («data» .entry))) room ⌝ }
+pub fn number_of(order: Order, data: &[u8], room: usize) -> u8
+    ensures { λ r. ⌜ r ≡ sendNumber (withData order (now («data» .entry))) room ⌝ }
 {
-    if !((direction <= 1) & (settings <= 7)) {
+    if !((order.direction <= 1) & (order.settings <= 7)) {
         return 7;
     }
-    if !count_fits(direction, count, data) {
+    if !count_fits(order, data) {
         return 8;
     }
-    if 0x7FFF < start {
+    if 0x7FFF < order.start {
         return 9;
     }
-    let s = settings as u8;
+    let s = order.settings as u8;
     let single = bit_at(s, 2);
-    if configures_early(single & (direction != 1), bit_at(s, 1), start as u16, data) {
+    let single_write = single & (order.direction != 1);
+    if configures_early(single_write, bit_at(s, 1), order.start as u16, data) {
         return 10;
     }
-    if room < sample_count(single, count as usize) {
+    if room < sample_count(single, order.count as usize) {
         return 11;
     }
     0

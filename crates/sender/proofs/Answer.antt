@@ -5,14 +5,14 @@ use Prim.Native.Nat.{ℕ}
 use native.Mathlib.Omega.{arith}
 use lib.ListN.{length}
 use borrow.Author.Tests.{eq-eqb, ne-eqb}
+use Rattle.bits.specs.Buffer.{Put}
 use Rattle.bits.proofs.Cases.{yes, no}
+use Rattle.bits.proofs.Putting.{put-filled}
 use Rattle.order.specs.Order.{Order}
 use Rattle.order.specs.Samples.{samplesOf}
 use Rattle.order.specs.Number.{sendNumber}
 use Rattle.sender.specs.Calls.{sending, sendOf}
-use Rattle.sender.specs.Run.{Put}
 use Rattle.order.proofs.Laws.{admitted}
-use Rattle.sender.proofs.Putting.{put-filled}
 
 module _ (o : Order) (old : List ℕ) where
   pub done : (k n : ℕ) (new : List ℕ) → k ≡ sendNumber o (length old) → k ≡ 0 → Put old 0 (samplesOf o) n new → sending 0 n new ≡ sendOf o old

@@ -1,3 +1,2 @@
-mod Putting
 mod Parts
 mod Answer

@@ -8,13 +8,14 @@ use native.Mathlib.Numerals.{add-one}
 use lib.ListN.{length, getD, drop, getD-replicate, drop-of-length-le}
 use lib.Seq.{drop-cons}
 use Rattle.bits.specs.Bits.{bitAt}
+use Rattle.bits.specs.Buffer.{Put}
+use Rattle.bits.proofs.Putting.{Splits}
 use Rattle.settings.specs.Settings.{nextAddress}
 use Rattle.sender.specs.declared.Run.{Run}
 use Rattle.order.specs.Order.{Order, runFrom, sentOf}
 use Rattle.order.specs.Samples.{highFirst, lowFirst, bitsOf, instructionOf, byteBits, runBits, orderBits, clocked, samplesOf}
-use Rattle.sender.specs.Run.{runOf, openingSamples, byteSamples, runSamples, closingSamples, Put}
+use Rattle.sender.specs.Run.{runOf, openingSamples, byteSamples, runSamples, closingSamples}
 use Rattle.order.proofs.Laws.{clocked-append, length-bits, length-clocked, length-byte-bits, length-sent}
-use Rattle.sender.proofs.Putting.{Splits}
 
 low-bit : (j w x i : ℕ) → i < w → getD (lowFirst j w x) i false ≡ bitAt x (j + i)
 unfolding lowFirst

@@ -1,10 +1,7 @@
--- What the code hands on: how a run goes, the samples of its parts, and samples put into a buffer.
-use Prim.Native.Nat.{ℕ, _+_}
-use mathlib.Core.Path.{_≡_}
+-- What the code hands on: how a run goes, and the samples of its parts.
+use Prim.Native.Nat.{ℕ}
 use mathlib.Core.Bool.{cond}
 use mathlib.Core.List.{List, [], _∷_}
-use lib.ListN.{length}
-use lib.Seq.{sets}
 use Rattle.sender.specs.declared.Run.{Run}
 use Rattle.order.specs.Order.{Order, isRead, lsbFirst, ascending, singleInstruction, runFrom}
 use Rattle.order.specs.Samples.{instructionOf, bitsOf, byteBits, runBits, clocked}
@@ -28,8 +25,3 @@ runSamples r a vs = clocked (runBits (r .single) (r .read) (r .lsb) (runFrom (r 
 -- 0x00 and 0x01
 abbrev pub closingSamples : List ℕ
 closingSamples = 0x00 ∷ 0x01 ∷ []
-
--- samples are put into a buffer at a place, with the place after them
-pub record Put (old : List ℕ) (at : ℕ) (samples : List ℕ) (next : ℕ) (new : List ℕ) : Type 0 where
-  pub next-place : next ≡ at + length samples
-  pub buffer : new ≡ sets old at samples

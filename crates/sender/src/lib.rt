@@ -2,13 +2,14 @@
 ghost use mathlib.Core.Path.{_≡_};
 ghost use mathlib.Core.List.{[]};
 ghost use Prim.Native.Nat.{_≤_};
-ghost use Rattle.order.specs.Order.{order};
+ghost use Rattle.order.specs.Order.{order, withData};
 ghost use Rattle.sender.specs.Calls.{sending, sendOf};
 ghost use Rattle.sender.specs.Run.{runOf};
 
 mod samples;
 
 use bits::bit_at;
+use order::Order;
 use order::number_of;
 use samples::put_samples;
 
@@ -27,13 +28,13 @@ struct Run {
 }
 
 // The run of an order, by its direction and its settings number.
-fn run_of(direction: u64, settings: u64) -> Run
-    requires { ⌜ settings ≤ 7 ⌝ }
-    ensures { λ r. ⌜ r ≡ runOf (order direction settings 0 0 []) ⌝ }
+fn run_of(order: Order) -> Run
+    requires { ⌜ order .settings ≤ 7 ⌝ }
+    ensures { λ r. ⌜ r ≡ runOf (withData order []) ⌝ }
 {
-    let s = settings as u8;
+    let s = order.settings as u8;
     Run {
-        read: direction == 1,
+        read: order.direction == 1,
         lsb: bit_at(s, 0),
         ascending: bit_at(s, 1),
         single: bit_at(s, 2),
@@ -51,11 +52,18 @@ pub fn send(
 ) -> Sent
     ensures { λ r. ⌜ sending (r .number) (r .samples) (now (out .exit)) ≡ sendOf (order direction settings start count (now («data» .entry))) (now (out .entry)) ⌝ }
 {
-    let number = number_of(direction, settings, start, count, data, out.len());
+    let order = Order {
+        direction: direction,
+        settings: settings,
+        start: start,
+        count: count,
+    };
+    let number = number_of(order, data, out.len());
     if number == 0 {
+        let samples = put_samples(order, data, out);
         return Sent {
             number: 0,
-            samples: put_samples(direction, settings, start, count, data, out),
+            samples: samples,
         };
     }
     Sent {

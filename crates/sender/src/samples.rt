@@ -5,12 +5,14 @@ ghost use mathlib.Core.List.{[], _∷_};
 ghost use Prim.Native.Nat.{_+_, _-_, _*_, _<_, _≤_};
 ghost use lib.ListN.{length, getD};
 ghost use Rattle.bits.specs.Bits.{bitAt};
-ghost use Rattle.order.specs.Order.{order, sentOf};
+ghost use Rattle.bits.specs.Buffer.{Put};
+ghost use Rattle.order.specs.Order.{withData, sentOf};
 ghost use Rattle.order.specs.Samples.{bitsOf, clocked, instructionOf, samplesOf};
 ghost use Rattle.order.specs.Number.{sendNumber};
-ghost use Rattle.sender.specs.Run.{openingSamples, byteSamples, runSamples, closingSamples, Put};
+ghost use Rattle.sender.specs.Run.{openingSamples, byteSamples, runSamples, closingSamples};
 use crate::Run;
 use crate::run_of;
+use order::Order;
 use settings::next_address;
 
 // The place in a value of the bit that travels as number i of so many.
@@ -115,19 +117,13 @@ fn put_closing(out: &mut [u8], at: usize) -> usize
 }
 
 // Puts all samples of an order that is not refused, at the start of the buffer.
-pub fn put_samples(
-    direction: u64,
-    settings: u64,
-    start: u64,
-    count: u64,
-    data: &[u8],
-    out: &mut [u8],
-) -> usize
-    requires { ⌜ sendNumber (order direction settings start count (now «data»)) (length (now out)) ≡ 0 ⌝ }
-    ensures { λ r. ⌜ Put (now (out .entry)) 0 (samplesOf (order direction settings start count (now («data» .entry)))) r (now (out .exit)) ⌝ }
+pub fn put_samples(order: Order, data: &[u8], out: &mut [u8]) -> usize
+    requires { ⌜ sendNumber (withData order (now «data»)) (length (now out)) ≡ 0 ⌝ }
+    ensures { λ r. ⌜ Put (now (out .entry)) 0 (samplesOf (withData order (now («data» .entry)))) r (now (out .exit)) ⌝ }
 {
-    let run = run_of(direction, settings);
-    let first = put_opening(run, start as u16, out);
-    let last = put_run(run, start as u16, count as usize, data, out, first);
+    let run = run_of(order);
+    let start = order.start as u16;
+    let first = put_opening(run, start, out);
+    let last = put_run(run, start, order.count as usize, data, out, first);
     put_closing(out, last)
 }

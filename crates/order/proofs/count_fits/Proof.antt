@@ -16,11 +16,13 @@ three true true false = refl
 three true false c = refl
 three false b c = refl
 
-due-is : (c : tie.Joined1) → c .if1 .due ≡ cond (eqb (c .before .args .direction) 1) 0 (c .before .args .count)
+due-is : (c : tie.Joined1)
+    → let o = c .before .before .args .order in
+    c .if1 .due ≡ cond (eqb (o .direction) 1) 0 (o .count)
 due-is c = ⊎-elim (λ w. rw (eq-eqb _ _ (w .0 .taken)) (w .1)) (λ w. rw (ne-eqb _ _ (w .0 .left)) (w .1)) (c .if1 .came)
 
 returns : tie.Need-returns
-returns c = rw (due-is c) (three _ _ _)
+returns c = rw (due-is (c .before .before)) (three _ _ _)
 
 pub count-fits-spec : {M : Type 1} → statement M
 count-fits-spec = tie.close (tie.spec returns)

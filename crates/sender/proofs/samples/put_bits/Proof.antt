@@ -4,9 +4,9 @@ use native.Mathlib.Omega.{arith}
 use lib.ListN.{drop}
 use borrow.Author.Needs.{needs}
 use Rattle.bits.proofs.Cases.{each}
+use Rattle.bits.proofs.Putting.{Putting, begun, next-fits, further, ended}
 use Rattle.order.specs.Samples.{bitsOf, clocked}
 use Rattle.order.proofs.Laws.{length-bits, length-clocked}
-use Rattle.sender.proofs.Putting.{Putting, begun, next-fits, further, ended}
 use Rattle.sender.proofs.Parts.{next-bit, no-more-bits}
 use Rattle.sender.proofs.samples.put_bits.Statement.{statement}
 use Rattle.sender.proofs.samples.put_bits.Tie as tie

@@ -1,6 +1,6 @@
 -- `put_byte` meets its contract: its instruction and its data bits one after the other, or the data bits alone.
 use native.Mathlib.Omega.{arith}
-use Rattle.sender.proofs.Putting.{put-both}
+use Rattle.bits.proofs.Putting.{put-both}
 use Rattle.sender.proofs.Parts.{after-bits, byte-single, byte-streaming, length-single, length-streaming}
 use borrow.Author.Needs.{needs}
 use Rattle.sender.proofs.samples.put_byte.Statement.{statement}

@@ -3,9 +3,9 @@ use mathlib.Core.Path.{_≡_, refl, _∙_}
 use mathlib.Core.List.{[], _∷_}
 use native.Mathlib.Omega.{arith}
 use lib.ListN.{length, length-set}
+use Rattle.bits.proofs.Putting.{put-both}
 use Rattle.order.specs.Samples.{bitsOf, instructionOf, clocked}
 use Rattle.order.proofs.Laws.{length-bits, length-clocked}
-use Rattle.sender.proofs.Putting.{put-both}
 use borrow.Author.Needs.{needs}
 use Rattle.sender.proofs.samples.put_opening.Statement.{statement}
 use Rattle.sender.proofs.samples.put_opening.Tie as tie

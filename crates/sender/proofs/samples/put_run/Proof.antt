@@ -3,10 +3,10 @@ use Prim.Native.Nat.{_-_, _<_, _≤_}
 use native.Mathlib.Omega.{arith}
 use lib.ListN.{drop}
 use borrow.Author.Needs.{needs}
+use Rattle.bits.proofs.Putting.{Putting, begun, next-fits, further, ended}
 use Rattle.order.specs.Order.{sentOf}
 use Rattle.sender.specs.Run.{runSamples}
 use Rattle.settings.proofs.Laws.{next-lt}
-use Rattle.sender.proofs.Putting.{Putting, begun, next-fits, further, ended}
 use Rattle.sender.proofs.Parts.{next-byte, no-more-bytes}
 use Rattle.sender.proofs.samples.put_run.Statement.{statement}
 use Rattle.sender.proofs.samples.put_run.Tie as tie

@@ -4,17 +4,17 @@ use mathlib.Core.List.{_++_}
 use native.Mathlib.Omega.{arith}
 use lib.ListN.{length}
 use borrow.Author.Needs.{needs}
-use Rattle.order.specs.Order.{Order, order}
+use Rattle.bits.proofs.Putting.{Putting, begun, next-fits, further, ended}
+use Rattle.order.specs.Order.{Order, withData}
 use Rattle.order.specs.Samples.{samplesOf}
 use Rattle.sender.specs.Run.{closingSamples}
 use Rattle.order.proofs.Laws.{Admitted, admitted}
-use Rattle.sender.proofs.Putting.{Putting, begun, next-fits, further, ended}
 use Rattle.sender.proofs.Parts.{allBytes, opening-first, bytes-next, closing-last}
 use Rattle.sender.proofs.samples.put_samples.Statement.{statement}
 use Rattle.sender.proofs.samples.put_samples.Tie as tie
 
 abbrev asked : tie.Start → Order
-asked c = order (c .args .direction) (c .args .settings) (c .args .start) (c .args .count) (c .args .«data» .now)
+asked c = withData (c .args .order) (c .args .«data» .now)
 
 taken : (c : tie.Start) → Admitted (asked c) (length (c .args .out .now))
 taken c = admitted (asked c) _ (c .pre)
@@ -26,43 +26,40 @@ whole c = begun _ _ _ (omega (arith, taken c .enough))
 run-of-requires : tie.Need-run-of-requires
 run-of-requires c κs = taken (c .before .before) .settings
 
-cast-put-opening : tie.Need-cast-put-opening
-cast-put-opening c = omega (arith, taken (c .before .before .before) .start)
+cast-start : tie.Need-cast-start
+cast-start c = omega (arith, taken (c .before .before .before .before) .start)
 
 put-opening-requires : tie.Need-put-opening-requires
 put-opening-requires c κs =
-    let s = c .before .before .before .before in
-    let fits = next-fits (whole s) (opening-first (asked s) _ (c .before .run-of .ensures)) in
+    let s = c .before .before .before .before .before in
+    let fits = next-fits (whole s) (opening-first (asked s) _ (c .before .before .run-of .ensures)) in
     (omega (arith, taken s .start), omega arith)
-
-cast-put-run : tie.Need-cast-put-run
-cast-put-run c = omega (arith, taken (c .before .before .before .before .before .before .before) .start)
 
 -- after the opening the bytes and the closing are left
 opened : (c : tie.After-slice-known2)
-    → let s = c .before .before .before .before .before .before .before in
-    Putting (s .args .out .now) 0 (samplesOf (asked s)) (allBytes (asked s) (c .before .before .before .before .run-of .result) ++ closingSamples)
+    → let s = c .before .before .before .before .before .before .before .before in
+    Putting (s .args .out .now) 0 (samplesOf (asked s)) (allBytes (asked s) (c .before .before .before .before .before .run-of .result) ++ closingSamples)
     (c .before .before .put-opening .result) (c .before .before .put-opening .last .1 .1 .0)
 opened c =
-    let s = c .before .before .before .before .before .before .before in
-    further (whole s) (opening-first (asked s) _ (c .before .before .before .before .run-of .ensures)) (c .before .before .put-opening .ensures)
+    let s = c .before .before .before .before .before .before .before .before in
+    further (whole s) (opening-first (asked s) _ (c .before .before .before .before .before .run-of .ensures)) (c .before .before .put-opening .ensures)
 
 put-run-requires : tie.Need-put-run-requires
 put-run-requires c κs =
-    let s = c .before .before .before .before .before .before .before .before in (
+    let s = c .before .before .before .before .before .before .before .before .before in (
       omega (arith, taken s .start),
       (
-        rw (c .before .before .before .before .before .run-of .ensures) (taken s .count .data-length),
+        rw (c .before .before .before .before .before .before .run-of .ensures) (taken s .count .data-length),
         next-fits (opened (c .before)) (bytes-next (asked s) _),
       ),
     )
 
 -- after the bytes the closing is left
 ran : (c : tie.After-slice-known3)
-    → let s = c .before .before .before .before .before .before .before .before .before .before .before in
+    → let s = c .before .before .before .before .before .before .before .before .before .before .before .before in
     Putting (s .args .out .now) 0 (samplesOf (asked s)) closingSamples (c .before .before .put-run .result) (c .before .before .put-run .last .1 .1 .1 .1 .0)
 ran c =
-    let s = c .before .before .before .before .before .before .before .before .before .before .before in
+    let s = c .before .before .before .before .before .before .before .before .before .before .before .before in
     further (opened (c .before .before .before .before)) (bytes-next (asked s) _) (c .before .before .put-run .ensures)
 
 put-closing-requires : tie.Need-put-closing-requires
@@ -79,9 +76,8 @@ put-samples-spec =
     tie.close
     (tie.spec
     run-of-requires
-    cast-put-opening
+    cast-start
     put-opening-requires
-    cast-put-run
     put-run-requires
     put-closing-requires
     same-length

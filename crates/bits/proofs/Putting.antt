@@ -1,4 +1,4 @@
--- Samples that are put into a buffer piece by piece.
+-- Bytes that are put into a buffer piece by piece.
 use mathlib.Core.Path.{_≡_, refl, sym, _∙_, ap}
 use mathlib.Core.List.{List, [], _++_}
 use Prim.Native.Nat.{ℕ, _+_, _≤_}
@@ -6,9 +6,8 @@ use native.Mathlib.Omega.{arith}
 use native.Mathlib.Nat.{add-assoc}
 use lib.ListN.{length, length-append}
 use lib.Seq.{sets, length-sets}
-use Rattle.bits.specs.Buffer.{filled}
+use Rattle.bits.specs.Buffer.{filled, Put}
 use Rattle.bits.proofs.Buffer.{sets-append, sets-filled}
-use Rattle.sender.specs.Run.{Put}
 
 -- two pieces, the second at the place after the first
 pub put-both : {old mid new : List ℕ} {at n m : ℕ} {xs ys : List ℕ} → Put old at xs n mid → Put mid n ys m new → Put old at (xs ++ ys) m new
