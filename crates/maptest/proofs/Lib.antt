@@ -1,3 +1,3 @@
-mod Entries
-mod Places
+pub mod Entries
+pub mod Places
 pub mod Laws
