@@ -1,4 +1,5 @@
 pub mod BitsBack
+pub mod Blank
 pub mod Buffered
 pub mod Calls
 pub mod Counts

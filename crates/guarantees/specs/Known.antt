@@ -1,5 +1,5 @@
 -- Document 01, "Known results": every starred line, as one table.
-use Prim.Native.Nat.{ℕ, zero, suc, _+_}
+use Prim.Native.Nat.{ℕ, zero, suc, _+_, _*_}
 use mathlib.Core.Path.{_≡_}
 use mathlib.Core.Bool.{Bool, true, false}
 use mathlib.Core.List.{List, [], _∷_, _++_}
@@ -15,6 +15,7 @@ use Rattle.registers.specs.Read.{dueByte}
 use Rattle.run.specs.Reading.{World, runOf, recordsOf}
 use Rattle.order.specs.Order.{Order}
 use Rattle.order.specs.Samples.{orderBits, samplesOf, allSamples}
+use Rattle.order.specs.Number.{sendNumber}
 use Rattle.guarantees.specs.StoppedRun.{stoppedSamples}
 
 -- a good map of 16 registers: each entry is kind, mask, default
@@ -29,6 +30,10 @@ map16 = 0x00 ∷ 0x33 ∷ 1 ∷ 0 ∷ 16 ∷ entries16
 -- the same with a buffered register at 0x0010, mask 0xFF, default 0x11
 abbrev pub map17 : List ℕ
 map17 = 0x00 ∷ 0x36 ∷ 1 ∷ 0 ∷ 17 ∷ (entries16 ++ (3 ∷ 0xFF ∷ 0x11 ∷ []))
+
+-- a good map of 8,192 registers: those sixteen, and 8,176 blank ones of three bytes behind them
+abbrev pub map8192 : List ℕ
+map8192 = (0x60 ∷ 0x03 ∷ 1 ∷ 0x20 ∷ 0x00 ∷ entries16) ++ replicate (3 * 8176) 0
 
 -- a streaming write of one byte; 1 as the settings number is LSB first
 abbrev pub writeOne : ℕ → ℕ → ℕ → Order
@@ -59,11 +64,21 @@ bitsOfDigits [] = []
 bitsOfDigits (zero ∷ ds) = false ∷ bitsOfDigits ds
 bitsOfDigits (suc d ∷ ds) = true ∷ bitsOfDigits ds
 
+-- There is a good map of n registers, and every one states this length and has so many bytes.
+pub record GoodMaps (example : List ℕ) (n stated bytes : ℕ) : Type 0 where
+  pub good : mapNumber example ≡ 0
+  pub registers : countOf example ≡ n
+  pub lengths : (m : List ℕ) → mapNumber m ≡ 0 → countOf m ≡ n → (lengthOf m ≡ stated) × (length m ≡ bytes)
+
+-- The sender takes the order with room for so many samples, and the order has just as many.
+pub record Sends (o : Order) (samples : ℕ) : Type 0 where
+  pub taken : sendNumber o samples ≡ 0
+  pub given : length (samplesOf o) ≡ samples
+
 pub record KnownResults : Type 0 where
   -- n = 16: length 0x0033, 53 bytes; n = 8,192: length 0x6003
-  pub length-16 : (m : List ℕ) → mapNumber m ≡ 0 → countOf m ≡ 16 → (lengthOf m ≡ 0x0033) × (length m ≡ 53)
-  pub length-8192 : (m : List ℕ) → mapNumber m ≡ 0 → countOf m ≡ 8192 → lengthOf m ≡ 0x6003
-  pub good-16 : (mapNumber map16 ≡ 0) × (countOf map16 ≡ 16)
+  pub maps-16 : GoodMaps map16 16 0x0033 53
+  pub maps-8192 : GoodMaps map8192 8192 0x6003 24581
   pub good-17 : (mapNumber map17 ≡ 0) × (countOf map17 ≡ 17)
   -- byte 0xA5, mask 0x0F, write 0x3C: 0xAC
   pub merge : merged 8 0xA5 0x3C 0x0F ≡ 0xAC
@@ -89,5 +104,5 @@ pub record KnownResults : Type 0 where
   pub due-22 : due10 (after (writeOne 0 0x0010 0x22 ∷ writeOne 0 0x0001 0x20 ∷ [])) ≡ 0x22
   pub active-22 : getD (after (writeOne 0 0x0010 0x22 ∷ writeOne 0 0x0001 0x20 ∷ writeOne 0 0x000F 0x01 ∷ []) .banks .active) 0x0010 0 ≡ 0x22
   -- k = 1,000: 16,035 samples, or 48,003
-  pub thousand : length (samplesOf (writeThousand 2)) ≡ 16035
-  pub thousand-single : length (samplesOf (writeThousand 6)) ≡ 48003
+  pub thousand : Sends (writeThousand 2) 16035
+  pub thousand-single : Sends (writeThousand 6) 48003

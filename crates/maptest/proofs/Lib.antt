@@ -1,3 +1,3 @@
-mod Entries
+pub mod Entries
 pub mod PlaceKinds
 pub mod Laws

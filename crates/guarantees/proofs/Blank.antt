@@ -1,0 +1,76 @@
+-- The map of 8,192 registers is good: its first sixteen entries compute, and a blank one is good at any place from 0x0010 on.
+use mathlib.Core.Path.{_≡_, refl, sym}
+use mathlib.Core.Bool.{Bool, true, false, cond}
+use mathlib.Core.List.{List, [], _∷_, _++_}
+use Prim.Native.Nat.{ℕ, zero, suc, _+_, _-_, _*_, _≤_}
+use native.Mathlib.Omega.{arith}
+use lib.ListN.{length, getD, replicate}
+use lib.Dec.{ltb}
+use Rattle.bits.specs.Bytes.{byteAt}
+use Rattle.bits.specs.Tests.{every}
+use Rattle.bits.proofs.Cases.{yes}
+use Rattle.regmap.specs.declared.Entry.{Entry}
+use Rattle.regmap.specs.Format.{entryStart, countOf, entryAt, registerAt}
+use Rattle.maptest.specs.MapTest.{formTests, kindRule, placeRule, entryGood, entriesGood, furtherTests, mapNumber}
+use Rattle.maptest.proofs.Entries.{three-parts}
+use Rattle.maptest.proofs.PlaceKinds.{free-place}
+use Rattle.maptest.proofs.Laws.{formed}
+use Rattle.guarantees.specs.Known.{entries16, map8192}
+
+repeated : (n i z : ℕ) → getD (replicate n z) i z ≡ z
+repeated zero i z = refl
+repeated (suc n) zero z = refl
+repeated (suc n) (suc i) z = repeated n i z
+
+-- behind some bytes one byte is repeated
+behind : (xs : List ℕ) (n i z : ℕ) → length xs ≤ i → getD (xs ++ replicate n z) i z ≡ z
+behind [] n i z h = repeated n i z
+behind (x ∷ xs) n zero z h = absurd (omega arith)
+behind (x ∷ xs) n (suc i) z h = behind xs n i z (omega arith)
+
+abbrev blankEntry : Entry
+blankEntry = record { kind = 0; mask = 0; default = 0 }
+
+module _ (xs : List ℕ) (n : ℕ) (head : length xs ≡ 53) where
+  abbrev m : List ℕ
+  m = xs ++ replicate n 0
+
+  blank-from-16 : (a : ℕ) → 16 ≤ a → registerAt m a ≡ blankEntry
+  unfolding entryAt
+  blank-from-16 a h = go (ltb a (countOf m))
+    where
+      go : (b : Bool) → cond b (record { kind = byteAt m (entryStart m a); mask = byteAt m (entryStart m a + 1); default = byteAt m (entryStart m a + 2) }) blankEntry ≡ blankEntry
+      go true =
+          rw (
+            behind xs n (entryStart m a) 0 (omega arith),
+            behind xs n (entryStart m a + 1) 0 (omega arith),
+            behind xs n (entryStart m a + 2) 0 (omega arith),
+          )
+      go false = refl
+
+  good-from-16 : (k a : ℕ) → 16 ≤ a → entriesGood m a k ≡ true
+  unfolding entriesGood entryGood kindRule
+  good-from-16 zero a h = refl
+  good-from-16 (suc k) a h = rw (blank-from-16 a h, ← free-place a 0 h, good-from-16 k (a + 1) (omega arith))
+
+first-good : true ≡ entriesGood map8192 0 16
+unfolding countOf entryAt kindRule placeRule entryGood entriesGood
+first-good = refl
+
+others-good : true ≡ entriesGood map8192 16 (countOf map8192 - 16)
+unfolding countOf
+others-good = sym (good-from-16 (0x60 ∷ 0x03 ∷ 1 ∷ 0x20 ∷ 0x00 ∷ entries16) (3 * 8176) refl 8176 16 (omega arith))
+
+form-good : every (formTests map8192) ≡ true
+unfolding every countOf
+form-good = refl
+
+further-good : true ≡ every (furtherTests map8192)
+unfolding every countOf entryAt
+further-good = refl
+
+pub good-8192 : mapNumber map8192 ≡ 0
+unfolding mapNumber
+good-8192 =
+    let rules = three-parts map8192 true true true (formed map8192 form-good) first-good others-good further-good in
+    sym (yes _ form-good (yes _ (sym rules) refl))
