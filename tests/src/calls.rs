@@ -3,9 +3,8 @@
 
 use std::fs::{self, File};
 use std::os::unix::fs::FileExt;
-use std::path::PathBuf;
 
-use crate::environment::differences;
+use crate::environment::{differ, difference_path};
 use crate::guarded::{Against, Guarded};
 use crate::layout::{from_bytes, to_bytes, SessionBytes, SESSION_SIZE};
 use crate::library::{self, Lent};
@@ -279,7 +278,8 @@ pub struct Comparison {
 
 impl Comparison {
     pub fn new(subject: &'static str) -> Self {
-        let running = File::create(path_of(subject, RUNNING)).expect("a file for the present seed");
+        let running =
+            File::create(difference_path(subject, RUNNING)).expect("a file for the present seed");
         Comparison { subject, seed: 0, memory: Memory::default(), running, tally: Tally::default() }
     }
 
@@ -310,40 +310,30 @@ impl Comparison {
         found
     }
 
-    /// Keeps a difference as a file, and fails.
+    /// Keeps all of a call that differs, and fails.
     fn differ(&self, call: Call, given: &Given, found: &Left, expected: &Left) -> ! {
-        let Comparison { subject, seed, memory, .. } = self;
-        let path = path_of(subject, &format!("seed-{seed}"));
-        let text = format!(
-            "SEED={seed} CALLS=1 cargo test -p couplingnut-tests {subject}\n\
-             {call:?}, its memory against the {:?}\n\n\
-             given\n{}\nfound\n{}\nexpected\n{}",
-            memory.against,
+        let told = format!(
+            "{call:?} gave {}, expected {}; what differs: {}; memory against the {:?}",
+            found.number,
+            expected.number,
+            differing(found, expected).join(", "),
+            self.memory.against
+        );
+        let listing = format!(
+            "given\n{}\nfound\n{}\nexpected\n{}",
             given.listing(),
             found.listing(),
             expected.listing()
         );
-        fs::write(&path, text).expect("the difference can be kept");
-        panic!(
-            "{subject}, seed {seed}: {call:?} gave {}, expected {}; {}; all of it is in {}",
-            found.number,
-            expected.number,
-            told(found, expected),
-            path.display()
-        )
+        differ(self.subject, self.seed, &told, &listing)
     }
 }
 
 impl Drop for Comparison {
     /// Nothing is running any more; a test that was killed does not come here.
     fn drop(&mut self) {
-        fs::remove_file(path_of(self.subject, RUNNING)).ok();
+        fs::remove_file(difference_path(self.subject, RUNNING)).ok();
     }
-}
-
-/// The file of a test for one purpose.
-fn path_of(subject: &str, purpose: &str) -> PathBuf {
-    differences().join(format!("{}-{purpose}.txt", subject.replace("::", "-")))
 }
 
 /// Bytes by their names, a line each.
@@ -353,7 +343,7 @@ fn lines(named: &[(&str, &[u8])]) -> String {
 }
 
 /// The names of what differs.
-fn told(found: &Left, expected: &Left) -> String {
+fn differing(found: &Left, expected: &Left) -> Vec<&'static str> {
     let parts = [
         ("number", found.number != expected.number),
         ("count", found.count != expected.count),
@@ -364,7 +354,5 @@ fn told(found: &Left, expected: &Left) -> String {
         ("records", found.records != expected.records),
         ("map or samples", found.inputs_kept != expected.inputs_kept),
     ];
-    let names: Vec<&str> =
-        parts.iter().filter(|(_, other)| *other).map(|(name, _)| *name).collect();
-    format!("what differs: {}", names.join(", "))
+    parts.into_iter().filter(|(_, other)| *other).map(|(name, _)| name).collect()
 }

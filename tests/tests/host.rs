@@ -1,6 +1,8 @@
 //! The library for the bench host against the second implementation: the map
-//! test and the sender, through the names that `libcouplingnut.a` exports to C.
+//! test and the sender, through the names that `libcouplingnut.a` exports to C,
+//! in memory beside inaccessible pages.
 
+use couplingnut_tests::environment::{differ, number_from};
 use couplingnut_tests::generate::maps::{count, good_map, simple_map, Damage};
 use couplingnut_tests::generate::random::Random;
 use couplingnut_tests::guarded::{Against, Guarded};
@@ -49,11 +51,14 @@ impl Given {
 }
 
 /// Both map tests on the same bytes, which end at an inaccessible page.
-fn compare_map(map: &[u8], memory: &mut Guarded, given: &mut Given) {
+fn compare_map(seed: u64, map: &[u8], memory: &mut Guarded, given: &mut Given) {
     let expected = map_test(map);
     let lent = memory.hold(map, Against::PageAfter);
-    assert_eq!(library::map_test(lent), u32::from(expected), "{map:02X?}");
-    assert!(lent == map, "a map that the test altered");
+    let found = library::map_test(lent);
+    if found != u32::from(expected) || lent != map {
+        let told = format!("the map test gave {found}, expected {expected}, or altered the map");
+        differ("host::the_map_test", seed, &told, &format!("map {map:02X?}\n"));
+    }
     given.note(expected);
 }
 
@@ -63,7 +68,7 @@ fn map_memory() -> Guarded {
 }
 
 /// Both senders on the same order and the same buffer, which is compared whole.
-fn compare_order(order: &Order, room: usize, buffers: &mut Buffers, given: &mut Given) {
+fn compare_order(seed: u64, order: &Order, room: usize, buffers: &mut Buffers, given: &mut Given) {
     let against = if room.is_multiple_of(8) { Against::PageBefore } else { Against::PageAfter };
     let before = &buffers.before[..room];
     buffers.expected.truncate(0);
@@ -73,12 +78,18 @@ fn compare_order(order: &Order, room: usize, buffers: &mut Buffers, given: &mut 
     let samples = buffers.samples.hold_number(0xDEAD_BEEF_DEAD_BEEF, against);
     let lent = Order { data: buffers.data.hold(order.data, against), ..*order };
     let number = library::send_into(&lent, found, samples);
-    let told = || format!("{order:X?} in {room} bytes");
-    assert_eq!(number, u32::from(answer.number), "{}", told());
-    assert_eq!(*samples, answer.count as u64, "{}", told());
-    assert!(found == buffers.expected, "other samples, or another rest: {}", told());
-    assert!(number == 0 || found == before, "a refusal that writes: {}", told());
-    assert!(lent.data == order.data, "an order that the sender altered: {}", told());
+    let same = (number, *samples) == (u32::from(answer.number), answer.count as u64)
+        && found == buffers.expected
+        && (number == 0 || found == before)
+        && lent.data == order.data;
+    if !same {
+        let told = format!("the sender gave {number} and {samples} samples, expected {answer:?}");
+        let listing = format!(
+            "{order:X?} in {room} bytes\nfound {found:02X?}\nexpected {:02X?}\n",
+            buffers.expected
+        );
+        differ("host::the_sender", seed, &told, &listing);
+    }
     given.note(answer.number);
 }
 
@@ -119,9 +130,10 @@ fn needed(settings: u64, count: u64) -> usize {
 #[test]
 fn the_map_test_agrees_on_good_and_damaged_maps() {
     let (mut given, mut memory) = (Given::default(), map_memory());
-    for seed in 0..MAPS {
+    let first = number_from("SEED", 0);
+    for seed in first..first + MAPS {
         let mut random = Random::new(seed);
-        compare_map(&any_map(&mut random), &mut memory, &mut given);
+        compare_map(seed, &any_map(&mut random), &mut memory, &mut given);
     }
     given.assert_each(&[0, 2, 3], 20_000);
 }
@@ -156,17 +168,17 @@ fn the_map_test_looks_at_every_byte_and_length() {
     let (mut given, mut memory) = (Given::default(), map_memory());
     let map = simple_map(18);
     for length in 0..map.len() {
-        compare_map(&map[..length], &mut memory, &mut given);
+        compare_map(0, &map[..length], &mut memory, &mut given);
     }
     for at in 0..map.len() {
         for value in 0..=255 {
             let mut changed = map.clone();
             changed[at] = value;
-            compare_map(&changed, &mut memory, &mut given);
+            compare_map(0, &changed, &mut memory, &mut given);
         }
     }
     for count in [15, 16, 17, 8_191, 8_192, 8_193] {
-        compare_map(&simple_map(count), &mut memory, &mut given);
+        compare_map(0, &simple_map(count), &mut memory, &mut given);
     }
     given.assert_each(&[0, 2, 3], 50);
 }
@@ -188,7 +200,7 @@ fn the_sender_agrees_at_every_boundary() {
             (due.saturating_sub(1), exact),
         ] {
             let order = Order { direction, settings, start, count, data: &bytes[..length] };
-            compare_order(&order, room, &mut buffers, &mut given);
+            compare_order(0, &order, room, &mut buffers, &mut given);
         }
     }
     given.assert_each(&[0, 7, 8, 9, 10, 11], 50);
@@ -212,11 +224,12 @@ fn boundaries() -> impl Iterator<Item = [u64; 4]> {
 fn the_sender_agrees_on_good_and_damaged_orders() {
     let mut given = Given::default();
     let mut buffers = Buffers::new();
-    for seed in 0..ORDERS {
+    let first = number_from("SEED", 0);
+    for seed in first..first + ORDERS {
         let mut random = Random::new(seed);
         let bytes = random.bytes(1_002);
         let (order, room) = any_order(&mut random, &bytes);
-        compare_order(&order, room, &mut buffers, &mut given);
+        compare_order(seed, &order, room, &mut buffers, &mut given);
     }
     given.assert_each(&[0, 7, 8, 9, 10, 11], 2_000);
 }
