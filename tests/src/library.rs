@@ -202,7 +202,8 @@ mod calls {
 
     fn missing() -> ! {
         panic!(
-            "libcouplingnut.a is missing; build it first: rt staticlib couplingnut (HOST_LIB_DIR says where)"
+            "libcouplingnut.a is missing; build it first: rt staticlib couplingnut \
+             (HOST_LIB_DIR says where)"
         )
     }
 }

@@ -122,7 +122,7 @@ fn spoil_samples(random: &mut Random, samples: &mut Vec<u8>) {
 /// A list of calls on one map: each gets the session and the banks as the last
 /// one left them, and the samples that are next.
 pub struct Chain {
-    pub random: Random,
+    random: Random,
     /// Session and banks as they now are.
     pub given: Given,
     trace: Vec<u8>,
@@ -166,7 +166,6 @@ impl Chain {
         let length = if whole { rest.len() } else { random.between(0, self.longest) };
         let mut given = self.given.clone();
         given.samples = rest[..length.min(rest.len())].to_vec();
-        let wrongs = any_wrongs(random);
         let due = given.records_due(call);
         let extra = random.pick(&[0, 0, 0, 1, 5, 6, 7, 100]);
         given.records = random.bytes(RECORD * due + extra);
@@ -178,7 +177,7 @@ impl Chain {
             Wrong::Room => due > 0,
             _ => true,
         };
-        let wrongs: Vec<Wrong> = wrongs.into_iter().filter(possible).collect();
+        let wrongs: Vec<Wrong> = any_wrongs(random).into_iter().filter(possible).collect();
         spoil(random, call, &mut given, &wrongs);
         (call, given)
     }
