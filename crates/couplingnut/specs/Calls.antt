@@ -6,6 +6,7 @@ use Rattle.sessionbytes.specs.Layout.{sessionBytes, areSession, sessionOf}
 use Rattle.registers.specs.Banks.{Banks}
 use Rattle.run.specs.Reading.{World}
 use Rattle.reader.specs.Calls as reader
+use Rattle.nextrecord.specs.NextRecord as nextrecord
 
 -- what a call of opening leaves: the number, the session's bytes, and the banks
 pub record Opening : Type 0 where
@@ -45,3 +46,18 @@ worldOf s b = record { session = sessionOf s; banks = b }
 -- A call of the reader. Bytes that are no session are refused with 1, and all is as given.
 unfoldable pub readOf : List ℕ → List ℕ → Banks → List ℕ → List ℕ → Outcome
 readOf m s b samples records = cond (areSession s) (outcomeOf (reader.readOf m (worldOf s b) samples records)) (outcome 1 s b 0 records)
+
+-- what a call for the next record leaves: the same, and how many samples were read
+pub record Next : Type 0 where
+  pub outcome : Outcome
+  pub taken : ℕ
+
+abbrev pub next : Outcome → ℕ → Next
+next o taken = record { outcome = o; taken = taken }
+
+abbrev pub nextBytes : nextrecord.Next → Next
+nextBytes n = next (outcomeOf (n .outcome)) (n .taken)
+
+-- A call for the next record. Bytes that are no session are refused as by the reader.
+unfoldable pub nextOf : List ℕ → List ℕ → Banks → List ℕ → List ℕ → Next
+nextOf m s b samples records = cond (areSession s) (nextBytes (nextrecord.nextOf m (worldOf s b) samples records)) (next (outcome 1 s b 0 records) 0)

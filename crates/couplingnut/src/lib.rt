@@ -5,8 +5,9 @@ ghost use Rattle.maptest.specs.MapTest.{mapNumber};
 ghost use Rattle.registers.specs.Banks.{banks};
 ghost use Rattle.order.specs.Order.{order};
 ghost use Rattle.sender.specs.Calls.{sending, sendOf};
-ghost use Rattle.couplingnut.specs.Calls.{opening, openOf, outcome, readOf};
+ghost use Rattle.couplingnut.specs.Calls.{opening, openOf, outcome, readOf, next, nextOf};
 use maptest::map_test;
+use nextrecord::next_record;
 use reader::open;
 use reader::read;
 use sender::send;
@@ -62,6 +63,35 @@ pub extern "C" fn couplingnut_read(
         return answer.number as u32;
     }
     *count = 0;
+    1
+}
+
+// Reads samples up to and with the first that gives a record, or all of them, and says how many it read. A refusal says that none
+// was, and leaves all as it was.
+#[no_mangle]
+pub extern "C" fn couplingnut_next_record(
+    map: &[u8],
+    session: &mut [u8; SIZE],
+    active: &mut [u8],
+    buffer: &mut [u8],
+    samples: &[u8],
+    records: &mut [u8],
+    count: &mut u64,
+    taken: &mut u64,
+) -> u32
+    ensures { λ r. ⌜ next (outcome r (now (session .exit)) (banks (now (active .exit)) (now (buffer .exit))) (now (count .exit)) (now (records .exit))) (now (taken .exit)) ≡ nextOf (now (map .entry)) (now (session .entry)) (banks (now (active .entry)) (now (buffer .entry))) (now (samples .entry)) (now (records .entry)) ⌝ }
+{
+    if are_session(session) {
+        let given = session_of(session);
+        let answer = next_record(map, given, active, buffer, samples, records);
+        let after = answer.session;
+        *session = bytes_of(after);
+        *count = answer.count as u64;
+        *taken = answer.taken as u64;
+        return answer.number as u32;
+    }
+    *count = 0;
+    *taken = 0;
     1
 }
 
