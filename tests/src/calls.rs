@@ -127,16 +127,13 @@ impl Given {
     }
 
     fn expect_read(&self, call: Call, mut session: Session, left: &mut Left) {
-        let read = |session: &mut Session, left: &mut Left| {
-            let Left { active, buffer, records, .. } = left;
-            match call {
-                Call::NextRecord => {
-                    reader::next_record(&self.map, session, active, buffer, &self.samples, records)
-                }
-                _ => (reader::read(&self.map, session, active, buffer, &self.samples, records), 0),
-            }
+        let Given { map, samples, .. } = self;
+        let Left { active, buffer, records, .. } = left;
+        let next = &mut session;
+        let (Answer { number, count }, taken) = match call {
+            Call::NextRecord => reader::next_record(map, next, active, buffer, samples, records),
+            _ => (reader::read(map, next, active, buffer, samples, records), 0),
         };
-        let (Answer { number, count }, taken) = read(&mut session, left);
         left.number = u32::from(number);
         left.count = count as u64;
         left.taken = taken as u64;
