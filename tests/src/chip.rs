@@ -1,15 +1,11 @@
-//! A chip on the bus: a map with its session and its two banks. It is opened,
-//! read and sent to by the second implementation and by the library, where it is
-//! there, and both have to leave the same: a test that says what document 01
-//! asks of a chip says it of the product too.
+//! A chip on the bus: a map with its session and its two banks. Both sides open
+//! it, read it and send to it.
 
-use std::cell::RefCell;
-
-use crate::calls::{Call, Given, Memory};
-use crate::layout::{from_bytes, to_bytes};
-use crate::library;
-use crate::second::reader::{self, RECORD};
-use crate::second::sender::{send, Order};
+use crate::both::{open, read, send};
+use crate::calls::Given;
+use crate::layout::to_bytes;
+use crate::second::reader::RECORD;
+use crate::second::sender::Order;
 use crate::second::session::Session;
 use crate::second::settings::Settings;
 use crate::second::Answer;
@@ -31,21 +27,15 @@ impl Chip {
     pub fn opened(map: &[u8]) -> Self {
         let count = (map.len() - 5) / 3;
         let (mut active, mut buffer) = (vec![0; count], vec![0; count]);
-        let (number, session) = reader::open(map, &mut active, &mut buffer);
+        let (number, session) = open(map, &mut active, &mut buffer);
         assert_eq!(number, 0, "the map of a chip is good");
-        let chip = Chip { map: map.to_vec(), session, active, buffer };
-        assert_library_agrees(Call::Open, &chip.given(&[], &[]));
-        chip
+        Chip { map: map.to_vec(), session, active, buffer }
     }
 
     /// The read call as it is.
     pub fn call(&mut self, samples: &[u8], records: &mut [u8]) -> Answer {
-        // What C can't hand over is left to the second implementation.
-        if from_bytes(&to_bytes(&self.session)) == Some(self.session) {
-            assert_library_agrees(Call::Read, &self.given(samples, records));
-        }
         let Chip { map, session, active, buffer } = self;
-        reader::read(map, session, active, buffer, samples, records)
+        read(map, session, active, buffer, samples, records)
     }
 
     /// What the library's calls are given for this chip.
@@ -94,28 +84,11 @@ impl Chip {
     }
 }
 
-/// That the library, where it is there, leaves what the second implementation
-/// does.
-fn assert_library_agrees(call: Call, given: &Given) {
-    thread_local! {
-        static MEMORY: RefCell<Memory> = RefCell::default();
-    }
-    if library::PRESENT {
-        let left = MEMORY.with_borrow_mut(|memory| memory.product(call, given));
-        assert_eq!(left, given.expected(call), "{call:?} of {given:02X?}");
-    }
-}
-
 /// The samples of an order that nothing refuses.
 pub fn sent(order: &Order) -> Vec<u8> {
     let mut samples = vec![0xEE; 48_003];
     let answer = send(order, &mut samples);
     assert_eq!(answer.number, 0, "the order is good");
-    if library::PRESENT {
-        let mut again = vec![0xEE; 48_003];
-        assert_eq!(library::send(order, &mut again), (0, answer.count as u64), "{order:X?}");
-        assert!(again == samples, "{order:X?}");
-    }
     samples.truncate(answer.count);
     samples
 }

@@ -6,13 +6,15 @@
 //! have been made twice. [`generate`] makes those inputs from a seed.
 //! [`program`] runs busread. [`library`] calls what is exported to C, and
 //! [`calls`] sets those calls against the second implementation, with memory
-//! from [`guarded`] and sessions as in [`layout`]. [`chip`] is a register map
-//! with its session and banks, for tests that read a few frames and look at what
-//! came of them, and [`book`] what a stopped run leaves.
+//! from [`guarded`] and sessions as in [`layout`]; [`both`] makes a call by both
+//! sides. [`chip`] is a register map with its session and banks, for tests that
+//! read a few frames and look at what came of them, and [`book`] what a stopped
+//! run leaves.
 
 #![deny(warnings, unsafe_code)]
 
 pub mod book;
+pub mod both;
 pub mod calls;
 pub mod chip;
 pub mod environment;

@@ -1,12 +1,13 @@
-//! The two calls of the reader in the second implementation: their numbers,
-//! what they leave alone, and the edges that are easily misread.
+//! Opening and reading, by both sides: their numbers, what they leave alone, and
+//! the edges that are easily misread.
 
+use couplingnut_tests::both::open;
 use couplingnut_tests::chip::{sent, Chip};
 use couplingnut_tests::generate::maps::{self, good_map, set_entry, simple_map};
 use couplingnut_tests::generate::random::Random;
 use couplingnut_tests::generate::sessions::{sound_session, unsound_sessions, USABLE};
 use couplingnut_tests::generate::traces::trace;
-use couplingnut_tests::second::reader::{most_records, open};
+use couplingnut_tests::second::reader::most_records;
 use couplingnut_tests::second::sender::Order;
 use couplingnut_tests::second::session::{Phase, Session, CSB, SCLK};
 use couplingnut_tests::second::settings::Settings;

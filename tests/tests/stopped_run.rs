@@ -1,6 +1,6 @@
 //! The stopped run of document 01: whatever calls read it, and wherever it is
 //! stopped, both banks end as the book says. The second implementation sends and
-//! reads it, and the library does.
+//! reads it, call by call beside the library; and the library does all alone.
 
 use couplingnut_tests::book::book;
 use couplingnut_tests::calls::{Call, Memory};
@@ -15,7 +15,9 @@ use couplingnut_tests::second::Answer;
 
 /// Who sends and reads the run.
 enum Side {
-    Second,
+    /// The second implementation, and beside it the library.
+    Both,
+    /// The library alone.
     Product(Box<Memory>),
 }
 
@@ -125,12 +127,12 @@ fn stops_end_as_the_book_says(side: &mut Side, seed: u64) {
 
 #[test]
 fn both_banks_end_as_the_book_says() {
-    runs_end_as_the_book_says(&mut Side::Second, 3);
+    runs_end_as_the_book_says(&mut Side::Both, 3);
 }
 
 #[test]
 fn every_stop_of_a_run_ends_as_the_book_says() {
-    stops_end_as_the_book_says(&mut Side::Second, 4);
+    stops_end_as_the_book_says(&mut Side::Both, 4);
 }
 
 #[test]
