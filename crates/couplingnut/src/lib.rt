@@ -35,8 +35,8 @@ pub extern "C" fn couplingnut_open(
     ensures { λ r. ⌜ opening r (now (session .exit)) (banks (now (active .exit)) (now (buffer .exit))) ≡ openOf (now (map .entry)) (banks (now (active .entry)) (now (buffer .entry))) ⌝ }
 {
     let opened = open(map, active, buffer);
-    let next = opened.session;
-    *session = bytes_of(next);
+    let fresh = opened.session;
+    *session = bytes_of(fresh);
     opened.number as u32
 }
 
@@ -83,12 +83,12 @@ pub extern "C" fn couplingnut_next_record(
 {
     if are_session(session) {
         let given = session_of(session);
-        let answer = next_record(map, given, active, buffer, samples, records);
-        let after = answer.session;
+        let found = next_record(map, given, active, buffer, samples, records);
+        let after = found.session;
         *session = bytes_of(after);
-        *count = answer.count as u64;
-        *taken = answer.taken as u64;
-        return answer.number as u32;
+        *count = found.count as u64;
+        *taken = found.taken as u64;
+        return found.number as u32;
     }
     *count = 0;
     *taken = 0;

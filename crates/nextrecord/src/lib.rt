@@ -5,7 +5,6 @@
 ghost use mathlib.Core.Path.{_≡_};
 ghost use mathlib.Core.Bool.{true};
 ghost use Rattle.session.specs.State.{soundSession};
-ghost use Rattle.registers.specs.Banks.{banks};
 ghost use Rattle.run.specs.Reading.{world};
 ghost use Rattle.reader.specs.Calls.{outcome};
 ghost use Rattle.nextrecord.specs.NextRecord.{samplesNumber, next, nextOf};

@@ -15,7 +15,7 @@ use Rattle.bits.proofs.Cases.{every-true}
 use Rattle.session.specs.declared.Phase.{Phase}
 use Rattle.session.specs.declared.Phase.the-variants.{Rest, Instruction, Data}
 use Rattle.session.specs.declared.Session.{Session}
-use Rattle.sessionbytes.specs.Layout.{phaseByte, phaseOf, wordOf, sessionBytes, fieldTests, areSession, sessionOf}
+use Rattle.sessionbytes.specs.Layout.{sessionSize, layoutVersion, phaseByte, phaseOf, wordOf, sessionBytes, fieldTests, areSession, sessionOf}
 
 -- a flag as the language makes it a byte
 pub flag-byte : (b : Bool) → boolByte b ≡ bitOf b
@@ -108,12 +108,12 @@ all-listed (suc n) b i e = drop-cons b i 0 (omega arith) ∙ ap (λ (l : List �
 pub bytes-back : (b : List ℕ) → areSession b ≡ true → ((i : ℕ) → getD b i 0 < 256) → sessionBytes (sessionOf b) ≡ b
 unfolding areSession sessionOf sessionBytes listed
 bytes-back b h small =
-    let t = every-true (eqb (length b) 20 ∷ fieldTests b) h in
+    let t = every-true (eqb (length b) sessionSize ∷ fieldTests b) h in
     let f = t .1 .1 in
     let g = f .1 .1 .1 in
     let u = g .1 .1 .1 .1 .1 .1 .1 in
     let at : ℕ → ℕ = λ i. getD b i 0 in
-    (λ i. (sym (eqb-true (at 0) 1 (t .1 .0)) i)
+    (λ i. (sym (eqb-true (at 0) layoutVersion (t .1 .0)) i)
     ∷ bit-back (at 1) (f .0) i ∷ bit-back (at 2) (f .1 .0) i ∷ number-back (at 3) (f .1 .1 .0) i
     ∷ at 4 ∷ high-back (at 5) (at 6) (small 6) i ∷ low-back (at 5) (at 6) (small 6) i
     ∷ high-back (at 7) (at 8) (small 8) i ∷ low-back (at 7) (at 8) (small 8) i ∷ bit-back (at 9) (g .0) i
@@ -121,4 +121,4 @@ bytes-back b h small =
     ∷ bit-back (at 13) (g .1 .1 .1 .1 .0) i ∷ bit-back (at 14) (g .1 .1 .1 .1 .1 .0) i ∷ bit-back (at 15) (g .1 .1 .1 .1 .1 .1 .0) i
     ∷ bit-back (at 16) (u .0) i ∷ bit-back (at 17) (u .1 .0) i ∷ bit-back (at 18) (u .1 .1 .0) i ∷ bit-back (at 19) (u .1 .1 .1 .0) i
     ∷ [])
-    ∙ sym (all-listed 20 b 0 (eqb-true (length b) 20 (t .0)))
+    ∙ sym (all-listed sessionSize b 0 (eqb-true (length b) sessionSize (t .0)))

@@ -1,4 +1,4 @@
--- The session as bytes, version 1 of the layout.
+-- The session as bytes, so that it can cross to a host.
 use Prim.Native.Nat.{ℕ, _+_, _*_, _/_, _%_}
 use mathlib.Core.Bool.{Bool, cond}
 use mathlib.Core.List.{List, [], _∷_, _++_}
@@ -11,6 +11,14 @@ use Rattle.settings.specs.declared.InUse.{InUse}
 use Rattle.session.specs.declared.Phase.{Phase}
 use Rattle.session.specs.declared.Phase.the-variants.{Rest, Instruction, Data}
 use Rattle.session.specs.declared.Session.{Session}
+
+-- how many bytes a session has
+abbrev pub sessionSize : ℕ
+sessionSize = 20
+
+-- the version of the layout: another layout has another one
+abbrev pub layoutVersion : ℕ
+layoutVersion = 1
 
 -- 0 rest, 1 instruction, 2 data
 abbrev pub phaseByte : Phase → ℕ
@@ -34,7 +42,7 @@ usedBytes u = bitOf (u .lsb) ∷ bitOf (u .ascending) ∷ bitOf (u .sdo) ∷ bit
 -- the direction, the settings and those in use. What has 16 bits is big-endian.
 unfoldable pub sessionBytes : Session → List ℕ
 sessionBytes s =
-    1 ∷ bitOf (s .csb) ∷ bitOf (s .sclk) ∷ phaseByte (s .phase)
+    layoutVersion ∷ bitOf (s .csb) ∷ bitOf (s .sclk) ∷ phaseByte (s .phase)
     ∷ s .bits ∷ s .value / 256 ∷ s .value % 256 ∷ s .address / 256 ∷ s .address % 256 ∷ bitOf (s .read)
     ∷ settingsBytes (s .settings) ++ usedBytes (s .used)
 
@@ -42,18 +50,18 @@ sessionBytes s =
 abbrev byteAt : List ℕ → ℕ → ℕ
 byteAt b i = getD b i 0
 
--- the version is 1, the phase 0 to 2, and each flag 0 or 1
+-- this version, a phase of 0 to 2, and flags of 0 or 1
 abbrev pub fieldTests : List ℕ → List Bool
 fieldTests b =
-    eqb (byteAt b 0) 1
+    eqb (byteAt b 0) layoutVersion
     ∷ leb (byteAt b 1) 1 ∷ leb (byteAt b 2) 1 ∷ leb (byteAt b 3) 2 ∷ leb (byteAt b 9) 1
     ∷ leb (byteAt b 10) 1 ∷ leb (byteAt b 11) 1 ∷ leb (byteAt b 12) 1 ∷ leb (byteAt b 13) 1 ∷ leb (byteAt b 14) 1 ∷ leb (byteAt b 15) 1
     ∷ leb (byteAt b 16) 1 ∷ leb (byteAt b 17) 1 ∷ leb (byteAt b 18) 1 ∷ leb (byteAt b 19) 1
     ∷ []
 
--- Whether bytes are a session: 20 of them, and each field is one.
+-- Whether bytes are a session: as many as it has, and each field is one.
 unfoldable pub areSession : List ℕ → Bool
-areSession b = every (eqb (length b) 20 ∷ fieldTests b)
+areSession b = every (eqb (length b) sessionSize ∷ fieldTests b)
 
 -- two bytes as a number, big-endian
 abbrev pub wordOf : ℕ → ℕ → ℕ

@@ -1,7 +1,7 @@
 // The session as bytes: it crosses so to a host, which knows none of our structs. The layout is in specs/Layout.antt.
 ghost use mathlib.Core.Path.{_≡_};
 ghost use lib.ListN.{length};
-ghost use Rattle.sessionbytes.specs.Layout.{phaseByte, phaseOf, wordOf, sessionBytes, areSession, sessionOf};
+ghost use Rattle.sessionbytes.specs.Layout.{sessionSize, phaseByte, phaseOf, wordOf, sessionBytes, areSession, sessionOf};
 use session::Phase;
 use session::Session;
 use settings::InUse;
@@ -99,7 +99,7 @@ pub fn are_session(bytes: &[u8]) -> bool
 
 // The session that bytes are.
 pub fn session_of(bytes: &[u8]) -> Session
-    requires { ⌜ length (now bytes) ≡ 20 ⌝ }
+    requires { ⌜ length (now bytes) ≡ sessionSize ⌝ }
     ensures { λ r. ⌜ r ≡ sessionOf (now (bytes .entry)) ⌝ }
 {
     Session {

@@ -4,14 +4,14 @@ use lib.ListN.{length}
 use borrow.Author.Tests.{eq-eqb, ne-eqb}
 use Rattle.bits.specs.Tests.{every}
 use Rattle.bits.proofs.Cases.{joined-every}
-use Rattle.sessionbytes.specs.Layout.{fieldTests, areSession}
+use Rattle.sessionbytes.specs.Layout.{sessionSize, fieldTests, areSession}
 use borrow.Author.Needs.{needs}
 use Rattle.sessionbytes.proofs.are_session.Statement.{statement}
 use Rattle.sessionbytes.proofs.are_session.Tie as tie
 
 returns : tie.Need-returns
 unfolding areSession every
-returns c = rw (ne-eqb (length (c .before .args .bytes .now)) 20 (c .if1 .taken))
+returns c = rw (ne-eqb (length (c .before .args .bytes .now)) sessionSize (c .if1 .taken))
 
 shared-slice-read-result : tie.Need-shared-slice-read-result
 shared-slice-read-result c = search needs
@@ -63,7 +63,7 @@ unfolding areSession every
 returns-2 c =
     let start = c .before .before .before .before .before .before .before .before .before .before .before .before .before .before .before in
     let b = start .before .args .bytes .now in
-    rw (eq-eqb (length b) 20 (start .if1 .left)) (joined-every true (fieldTests b))
+    rw (eq-eqb (length b) sessionSize (start .if1 .left)) (joined-every true (fieldTests b))
 
 pub are-session-spec : {M : Type 1} → statement M
 are-session-spec =
