@@ -8,9 +8,9 @@ run: build
 # Proves what the programs are made of, unless that is done, and builds them.
 build:
 	@mkdir -p target/host
-	@rt check busread host >target/build.log 2>&1 || { cat target/build.log; exit 1; }
-	@rt staticlib host >target/build.log 2>&1 || { cat target/build.log; exit 1; }
-	@gcc -std=c11 -O2 -Wall -Wextra -Werror -o target/host/bussend host/bussend.c target/staticlib/libhost.a
+	@rt check busread couplingnut >target/build.log 2>&1 || { cat target/build.log; exit 1; }
+	@rt staticlib couplingnut >target/build.log 2>&1 || { cat target/build.log; exit 1; }
+	@gcc -std=c11 -O2 -Wall -Wextra -Werror -o target/host/bussend host/bussend.c target/staticlib/libcouplingnut.a
 
 test:
 	@.ci/run

@@ -1,5 +1,5 @@
 /*
- * Both calls through the header, as a C or C++ program makes them: every number, null pointers with length 0, what a refusal
+ * The calls through the header, as a C or C++ program makes them: every number, null pointers with length 0, what a refusal
  * leaves, and the words. Prints a line for each check, and ends with status 1 at the first that fails.
  */
 #include "couplingnut.h"
@@ -80,10 +80,113 @@ static void check_send(void)
     check(send_into(0, 0, 0x000A, 1, 1, 0, 0) == 11, "a null buffer of length 0 is refused 11");
 }
 
+/* A recording of sixteen registers with its session, its banks and room for records. */
+struct recording {
+    couplingnut_session session;
+    uint8_t active[16];
+    uint8_t buffer[16];
+    uint8_t records[20];
+    uint64_t count;
+    uint64_t taken;
+};
+
+static uint32_t open_map(struct recording *r)
+{
+    memset(r, PATTERN, sizeof *r);
+    return couplingnut_open(map, sizeof map, &r->session, r->active, sizeof r->active, r->buffer, sizeof r->buffer);
+}
+
+static uint32_t read_into(struct recording *r, const uint8_t *samples, size_t length, size_t room)
+{
+    return couplingnut_read(map, sizeof map, &r->session, r->active, sizeof r->active, r->buffer, sizeof r->buffer, samples,
+                            length, r->records, room, &r->count);
+}
+
+static uint32_t next_into(struct recording *r, const uint8_t *samples, size_t length, size_t room)
+{
+    return couplingnut_next_record(map, sizeof map, &r->session, r->active, sizeof r->active, r->buffer, sizeof r->buffer,
+                                   samples, length, r->records, room, &r->count, &r->taken);
+}
+
+/* The samples of a write of 0x3C and 0x5A to 0x000A and 0x0009, and the records of it: 0x0009 has mask 0. */
+static const uint8_t written[] = {1, 0x00, 0x0A, 0x3C, 0x3C, 1, 1, 0x00, 0x09, 0x5A, 0x00, 1};
+
+static size_t two_bytes(uint8_t *samples, size_t room)
+{
+    static const uint8_t data[2] = {0x3C, 0x5A};
+    uint64_t count = 0;
+
+    check(couplingnut_send(COUPLINGNUT_WRITE, 0, 0x000A, 2, data, sizeof data, samples, room, &count) == COUPLINGNUT_DONE,
+          "a write of two bytes is sent");
+    return (size_t)count;
+}
+
+static void check_open(void)
+{
+    static const uint8_t opened[COUPLINGNUT_SESSION_SIZE] = {1, 1};
+    struct recording r;
+
+    check(open_map(&r) == COUPLINGNUT_DONE, "a good map is opened");
+    check(memcmp(r.session.bytes, opened, sizeof opened) == 0, "the opened session is version 1, at rest with CSB high");
+    check(r.active[0x0C] == 0x56 && r.buffer[0x0D] == 0x04, "both banks have the defaults");
+    memset(&r, PATTERN, sizeof r);
+    check(couplingnut_open(map, sizeof map, &r.session, r.active, 15, r.buffer, 16) == COUPLINGNUT_BAD_BANK &&
+              memcmp(r.session.bytes, opened, sizeof opened) == 0 && r.active[0] == PATTERN && r.buffer[0] == PATTERN,
+          "a bank of 15 bytes is refused 4, and only the session is written");
+}
+
+static void check_read(void)
+{
+    struct recording r;
+    struct recording before;
+    uint8_t samples[100];
+    size_t length = two_bytes(samples, sizeof samples);
+
+    check(open_map(&r) == COUPLINGNUT_DONE && read_into(&r, samples, length, sizeof r.records) == COUPLINGNUT_DONE &&
+              r.count == 2,
+          "two records are read");
+    check(memcmp(r.records, written, sizeof written) == 0 && r.records[12] == PATTERN, "they fill the start of the buffer");
+    check(r.active[0x0A] == 0x3C && r.active[0x09] == 0, "the register has the byte, where its mask has ones");
+    open_map(&r);
+    before = r;
+    before.count = 0;
+    check(read_into(&r, samples, length, 11) == COUPLINGNUT_SHORT_RECORDS && memcmp(&r, &before, sizeof r) == 0,
+          "room for one byte less is refused 6, and all is as it was");
+    r.session.bytes[0] = 2;
+    before = r;
+    check(read_into(&r, samples, length, sizeof r.records) == COUPLINGNUT_BAD_SESSION && memcmp(&r, &before, sizeof r) == 0,
+          "a session of another version is refused 1, and comes back as given");
+}
+
+static void check_next(void)
+{
+    struct recording r;
+    struct recording before;
+    uint8_t samples[100];
+    size_t length = two_bytes(samples, sizeof samples);
+
+    open_map(&r);
+    check(next_into(&r, samples, length, 6) == COUPLINGNUT_DONE && r.count == 1 && r.taken == 49 &&
+              memcmp(r.records, written, 6) == 0,
+          "the first record stands at sample 48");
+    check(next_into(&r, samples + 49, length - 49, 6) == COUPLINGNUT_DONE && r.count == 1 && r.taken == 16 &&
+              memcmp(r.records, written + 6, 6) == 0,
+          "the second at the sixteenth after it");
+    before = r;
+    before.count = 0;
+    before.taken = 0;
+    samples[length - 1] = 0x10;
+    check(next_into(&r, samples + 65, length - 65, 6) == COUPLINGNUT_BAD_SAMPLES && memcmp(&r, &before, sizeof r) == 0,
+          "a bad sample is refused 5, and all is as it was");
+    samples[length - 1] = 0x01;
+    check(next_into(&r, samples + 65, length - 65, 0) == COUPLINGNUT_DONE && r.count == 0 && r.taken == length - 65,
+          "the rest gives no record, and needs no room");
+}
+
 static void check_words(void)
 {
-    static const unsigned given[] = {0, 2, 3, 7, 8, 9, 10, 11};
-    const char *none = couplingnut_words(1);
+    static const unsigned given[] = {0, 1, 2, 3, 4, 5, 6, 7, 8, 9, 10, 11};
+    const char *none = couplingnut_words(12);
     size_t i;
     size_t j;
     int unlike = 1;
@@ -95,12 +198,14 @@ static void check_words(void)
         }
     }
     check(unlike, "each number has its own words");
-    check(strcmp(couplingnut_words(6), none) == 0 && strcmp(couplingnut_words(12), none) == 0,
-          "a number that no call gives has words too");
+    check(strcmp(couplingnut_words(4294967295u), none) == 0, "a number that no call gives has words too");
 }
 
 int main(void)
 {
+    check_open();
+    check_read();
+    check_next();
     check_map();
     check_send();
     check_words();

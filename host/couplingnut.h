@@ -1,27 +1,42 @@
 /*
- * Couplingnut for C and C++: the test of a register map, and the sender, which makes the samples of one read or write run.
+ * Couplingnut for C and C++: a reader and a sender for the serial control interface (ADI-SPI) of a chip.
  *
- * The library is libhost.a (`rt staticlib host`), for x86-64 Linux. Its code is proved: for every input each call ends, answers
- * as document 01 says, and touches no memory but what it was lent. It keeps nothing between calls, so any thread may call it
- * at any time.
+ * The reader takes sampled levels of the four lines and the map of the chip's registers, and tells what passed: a record for each
+ * byte written or read and for each transfer broken off, and what every register then holds. The sender makes the samples of one
+ * read or write run.
  *
- * Each call gives back a number, the lowest that applies:
+ * The library is libcouplingnut.a (`rt staticlib couplingnut`), for x86-64 Linux. Its code is proved: for every input each call
+ * ends, answers as written here, and touches no memory but what it was lent. It keeps nothing between calls, so any thread may
+ * call it at any time.
  *
- *      0  done
- *      2  map: length, version or n is wrong, or there are fewer than 5 bytes
- *      3  map: an entry breaks a rule
- *      7  order: the direction is above 1, or the settings number above 7
- *      8  order: the count is not 1 to 1,000, or the data is not as long as it says (a read has none)
- *      9  order: the start address is above 0x7FFF
- *     10  order: a single-instruction write with 0x0000 or 0x0001 anywhere but last
- *     11  order: the outgoing buffer is too short
+ * How a recording is read:
  *
- * (1 and 4 to 6 are the reader's, which is not exported.) couplingnut_words gives the words for a number.
+ *     couplingnut_session session;
+ *     uint8_t active[16], buffer[16];                      (a byte for each register of the map)
+ *     uint8_t records[COUPLINGNUT_RECORDS_SIZE(4096)];
+ *     uint64_t count;
  *
- * No refusal alters lent memory, but for the count of samples, which it sets to 0.
+ *     couplingnut_open(map, map_length, &session, active, 16, buffer, 16);
+ *     for each piece of at most 4,096 samples:
+ *         couplingnut_read(map, map_length, &session, active, 16, buffer, 16, piece, piece_length, records, sizeof records, &count);
+ *         (`count` records of 6 bytes stand at the start of `records`)
  *
- * Use the two functions at the end, couplingnut_map_number and couplingnut_send_order. They call the library, and take a null
- * pointer where the length is 0.
+ * THE MAP is bytes that say what registers the chip has: 2 bytes, how many bytes follow them; 1 byte, the version, 1; 2 bytes, the
+ * number n of registers, 16 to 8,192; then for each register, from address 0 on, 3 bytes: kind (0 blank, 1 read-only, 2 plain,
+ * 3 buffered, 4 control), mask of the bits that can be written, default. Numbers of 2 bytes have the high byte first.
+ *
+ * THE BANKS are two pieces of memory of n bytes each that the caller keeps. `active` holds what is in force, `buffer` what was
+ * written to buffered registers and waits for a transfer. Between the calls on one recording nobody else writes them.
+ *
+ * A SAMPLE is a byte: bit 0 CSB, bit 1 SCLK, bit 2 SDIO, bit 3 SDO; bits 4 to 7 are zero.
+ *
+ * A RECORD is 6 bytes: its kind (1 write, 2 read, 3 broken off); the address, high byte first; then
+ *     of a write:      the byte written; what the register holds after it (0 with effect 0); the effect: 0 none, 1 the register
+ *                      changed, 2 its buffer did, 3 settings, 4 a transfer, 5 a soft reset
+ *     of a read:       the byte due from the register; the byte on the line; 0 if they are equal, else 1
+ *     if broken off:   how many bits were there; 0 in an instruction, 1 in data; 0
+ *
+ * Each call gives back a number, the lowest that applies; they are listed below.
  */
 #ifndef COUPLINGNUT_H
 #define COUPLINGNUT_H
@@ -40,6 +55,50 @@ extern "C" {
 #define COUPLINGNUT_NOT_NULL
 #endif
 
+/* The numbers that calls give back: done, or why not. couplingnut_message has words for each. */
+enum couplingnut_number {
+    COUPLINGNUT_DONE = 0,
+    COUPLINGNUT_BAD_SESSION = 1,        /* the session's bytes are none, or no session of this library */
+    COUPLINGNUT_BAD_MAP_FORM = 2,       /* the map's length, version or n is wrong, or it has fewer than 5 bytes */
+    COUPLINGNUT_BAD_MAP_ENTRY = 3,      /* a register of the map breaks a rule */
+    COUPLINGNUT_BAD_BANK = 4,           /* a bank isn't n bytes */
+    COUPLINGNUT_BAD_SAMPLES = 5,        /* more than 65,536 samples, or one with any of bits 4 to 7 set */
+    COUPLINGNUT_SHORT_RECORDS = 6,      /* the records need more bytes than are lent */
+    COUPLINGNUT_BAD_ORDER = 7,          /* the direction is above 1, or the settings number above 7 */
+    COUPLINGNUT_BAD_COUNT = 8,          /* the count isn't 1 to 1,000, or the data isn't as long as it says (a read has none) */
+    COUPLINGNUT_BAD_START = 9,          /* the start address is above 0x7FFF */
+    COUPLINGNUT_BAD_SINGLE = 10,        /* a single-instruction write with 0x0000 or 0x0001 anywhere but last */
+    COUPLINGNUT_SHORT_OUT = 11          /* the outgoing buffer is too short */
+};
+
+/* How many bytes a record has, and how many hold the records of so many samples, whatever they are. */
+enum { COUPLINGNUT_RECORD_SIZE = 6 };
+#define COUPLINGNUT_RECORDS_SIZE(samples) (COUPLINGNUT_RECORD_SIZE * (((samples) + 2) / 3))
+
+/* No call of the reader takes more samples. */
+enum { COUPLINGNUT_MOST_READ = 65536 };
+
+/*
+ * Where a recording stands between two calls: nothing but these bytes, so it can be copied, compared and stored. Opening makes
+ * the first one. Version 1 of the layout, a byte for each field but the two numbers of 2 bytes, high byte first:
+ *
+ *      0         the version, 1
+ *      1, 2      the last CSB and SCLK
+ *      3         the phase: 0 rest, 1 instruction, 2 data
+ *      4         how many bits of the present instruction or byte are taken
+ *      5, 6      their value
+ *      7, 8      the address
+ *      9         the direction: 0 write, 1 read
+ *     10 to 15   the settings: LSB first, ascending, SDO active, single instruction, buffer readback, slow
+ *     16 to 19   the first four of them as the present instruction uses them
+ *
+ * Flags are 0 or 1. Bytes with another version, phase or flag are no session.
+ */
+#define COUPLINGNUT_SESSION_SIZE 20
+typedef struct couplingnut_session {
+    uint8_t bytes[COUPLINGNUT_SESSION_SIZE];
+} couplingnut_session;
+
 /* The direction of an order. */
 enum { COUPLINGNUT_WRITE = 0, COUPLINGNUT_READ = 1 };
 
@@ -53,43 +112,83 @@ enum { COUPLINGNUT_MOST_SAMPLES = 48003 };
  * What the library exports.
  *
  * The caller owes, for each call:
- *   - map, data and out point to as many bytes as the length after them says. They are not null, also where that length is 0.
- *   - samples points to a number.
- *   - out and samples overlap nothing else that is passed, and nobody else uses them during the call; nobody writes map or data.
- * Nothing else: every value of every number is allowed, and tested before it is cut to a smaller type.
+ *   - Each pointer with a length after it points to as many bytes as the length says. It is not null, also where that length
+ *     is 0.
+ *   - session points to a session, and count, taken and samples to a number each. They are not null.
+ *   - What isn't const overlaps nothing else that is passed, and nobody else uses it during the call; nobody writes what is.
+ * Nothing else: every value of every byte and number is allowed, and tested before it is cut to a smaller type.
+ *
+ * A refusal (any number but 0) puts 0 in *count, *taken and *samples, and leaves all else that was lent as it was. Only opening
+ * puts the opened session into *session even then.
  */
 
 /* Tests a register map: 0, 2 or 3. */
 COUPLINGNUT_NOT_NULL
 uint32_t couplingnut_map_test(const uint8_t *map, size_t map_length);
 
+/* Puts the default of each register in both banks, and the opened session into *session: 0, or 2 to 4. */
+COUPLINGNUT_NOT_NULL
+uint32_t couplingnut_open(const uint8_t *map, size_t map_length, couplingnut_session *session, uint8_t *active,
+                          size_t active_length, uint8_t *buffer, size_t buffer_length);
+
+/*
+ * Reads samples, which go on from *session: 0, or 1 to 6. *session and the banks become what the samples lead to. The records
+ * stand at the start of `records` in order of time, and *count says how many; the rest of it is unchanged. A recording may be
+ * cut into pieces anywhere.
+ */
+COUPLINGNUT_NOT_NULL
+uint32_t couplingnut_read(const uint8_t *map, size_t map_length, couplingnut_session *session, uint8_t *active,
+                          size_t active_length, uint8_t *buffer, size_t buffer_length, const uint8_t *samples,
+                          size_t samples_length, uint8_t *records, size_t records_length, uint64_t *count);
+
+/*
+ * Reads samples up to and with the first that gives a record, or all of them: 0, or 1 to 6. It leaves what couplingnut_read of
+ * just those samples leaves; *count is 0 or 1, and *taken says how many samples were read. With *count 1 the record stands at
+ * sample *taken - 1, and the next call goes on at sample *taken. Number 5 looks at all samples handed in, 6 at the one record.
+ */
+COUPLINGNUT_NOT_NULL
+uint32_t couplingnut_next_record(const uint8_t *map, size_t map_length, couplingnut_session *session, uint8_t *active,
+                                 size_t active_length, uint8_t *buffer, size_t buffer_length, const uint8_t *samples,
+                                 size_t samples_length, uint8_t *records, size_t records_length, uint64_t *count,
+                                 uint64_t *taken);
+
 /*
  * Puts the samples of an order at the start of out, and their count in *samples: 0, or 7 to 11. The rest of out is unchanged.
- * A refusal leaves all of out as it was and puts 0 in *samples. A sample is a byte: bit 0 CSB, bit 1 SCLK, bit 2 SDIO.
  */
 COUPLINGNUT_NOT_NULL
 uint32_t couplingnut_send(uint64_t direction, uint64_t settings, uint64_t start, uint64_t count, const uint8_t *data,
                           size_t data_length, uint8_t *out, size_t out_length, uint64_t *samples);
 
-/* What a number says, in words; never null. */
+/* What a number says, in words that last as long as the program; never null, whatever the number is. */
+const char *couplingnut_message(uint32_t number);
+
+/* The same in the header alone, for a program that links no words. */
 static inline const char *couplingnut_words(unsigned number)
 {
     switch (number) {
-    case 0:
+    case COUPLINGNUT_DONE:
         return "done";
-    case 2:
+    case COUPLINGNUT_BAD_SESSION:
+        return "the session is not sound";
+    case COUPLINGNUT_BAD_MAP_FORM:
         return "the map's length, version or count is wrong, or it has fewer than 5 bytes";
-    case 3:
+    case COUPLINGNUT_BAD_MAP_ENTRY:
         return "an entry of the map breaks a rule";
-    case 7:
+    case COUPLINGNUT_BAD_BANK:
+        return "a bank does not have a byte for each register";
+    case COUPLINGNUT_BAD_SAMPLES:
+        return "there are more than 65,536 samples, or one has any of bits 4 to 7 set";
+    case COUPLINGNUT_SHORT_RECORDS:
+        return "the records need more bytes than are lent";
+    case COUPLINGNUT_BAD_ORDER:
         return "the direction is above 1, or the settings number above 7";
-    case 8:
+    case COUPLINGNUT_BAD_COUNT:
         return "the count is not 1 to 1,000, or the data is not as long as it says";
-    case 9:
+    case COUPLINGNUT_BAD_START:
         return "the start address is above 0x7FFF";
-    case 10:
+    case COUPLINGNUT_BAD_SINGLE:
         return "a single-instruction write has 0x0000 or 0x0001 anywhere but last";
-    case 11:
+    case COUPLINGNUT_SHORT_OUT:
         return "the outgoing buffer is too short";
     default:
         return "no call here gives this number";

@@ -1,8 +1,11 @@
-//! A chip on the bus as the second implementation sees it: a map with its
-//! session and its two banks.
+//! A chip on the bus: a map with its session and its two banks. Both sides open
+//! it, read it and send to it.
 
-use crate::second::reader::{self, RECORD};
-use crate::second::sender::{send, Order};
+use crate::both::{open, read, send};
+use crate::calls::Given;
+use crate::layout::to_bytes;
+use crate::second::reader::RECORD;
+use crate::second::sender::Order;
 use crate::second::session::Session;
 use crate::second::settings::Settings;
 use crate::second::Answer;
@@ -24,7 +27,7 @@ impl Chip {
     pub fn opened(map: &[u8]) -> Self {
         let count = (map.len() - 5) / 3;
         let (mut active, mut buffer) = (vec![0; count], vec![0; count]);
-        let (number, session) = reader::open(map, &mut active, &mut buffer);
+        let (number, session) = open(map, &mut active, &mut buffer);
         assert_eq!(number, 0, "the map of a chip is good");
         Chip { map: map.to_vec(), session, active, buffer }
     }
@@ -32,7 +35,19 @@ impl Chip {
     /// The read call as it is.
     pub fn call(&mut self, samples: &[u8], records: &mut [u8]) -> Answer {
         let Chip { map, session, active, buffer } = self;
-        reader::read(map, session, active, buffer, samples, records)
+        read(map, session, active, buffer, samples, records)
+    }
+
+    /// What the library's calls are given for this chip.
+    pub fn given(&self, samples: &[u8], records: &[u8]) -> Given {
+        Given {
+            map: self.map.clone(),
+            session: to_bytes(&self.session),
+            active: self.active.clone(),
+            buffer: self.buffer.clone(),
+            samples: samples.to_vec(),
+            records: records.to_vec(),
+        }
     }
 
     /// Reads samples that nothing refuses, and gives their records as lines.

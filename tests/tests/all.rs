@@ -3,11 +3,16 @@
 mod audit;
 mod bench_tools;
 mod busread;
+mod calls;
 mod generator;
+mod guarded;
 mod host;
 mod known_results;
+mod layout;
 mod map_test;
+mod next_record;
 mod reader;
+mod refusals;
 mod registers;
 mod report;
 mod sender;

@@ -6,13 +6,14 @@ use std::io::{self, Read, Write};
 use std::os::fd::OwnedFd;
 use std::os::unix::net::UnixStream;
 use std::os::unix::process::ExitStatusExt;
-use std::path::{Path, PathBuf};
+use std::path::PathBuf;
 use std::process::{ChildStdout, Command, Stdio};
 use std::sync::atomic::{AtomicU64, Ordering};
 use std::sync::Mutex;
 use std::thread;
 
 use couplingnut_tests::chip::sent;
+use couplingnut_tests::environment::{differences, number_from};
 use couplingnut_tests::generate::maps::{good_map, simple_map};
 use couplingnut_tests::generate::random::Random;
 use couplingnut_tests::generate::{self, traces};
@@ -24,14 +25,6 @@ const SIGPIPE: i32 = 13;
 const WORKERS: usize = 2;
 /// After so many differences the rest of the cases is left alone.
 const ENOUGH: usize = 5;
-
-/// A number from the environment, or this one.
-fn number_from(variable: &str, otherwise: u64) -> u64 {
-    match std::env::var(variable) {
-        Ok(text) => text.parse().unwrap_or_else(|_| panic!("{variable} is no number: {text}")),
-        Err(_) => otherwise,
-    }
-}
 
 #[test]
 fn prints_what_the_second_implementation_prints() {
@@ -106,9 +99,7 @@ fn first_difference(output: &[u8], expected: &[u8]) -> String {
 }
 
 fn keep(seed: u64, input: &[u8], expected: &[u8], output: &[u8]) -> io::Result<PathBuf> {
-    let folder = Path::new(env!("CARGO_MANIFEST_DIR")).join("../target/differences");
-    fs::create_dir_all(&folder)?;
-    let path = folder.join(format!("seed-{seed}.input"));
+    let path = differences().join(format!("seed-{seed}.input"));
     fs::write(&path, input)?;
     fs::write(path.with_extension("expected"), expected)?;
     fs::write(path.with_extension("output"), output)?;

@@ -1,8 +1,11 @@
 //! The library for the bench host against the second implementation: the map
-//! test and the sender, through the names that `libhost.a` exports to C.
+//! test and the sender, through the names that `libcouplingnut.a` exports to C,
+//! in memory beside inaccessible pages.
 
+use couplingnut_tests::environment::{differ, number_from};
 use couplingnut_tests::generate::maps::{count, good_map, simple_map, Damage};
 use couplingnut_tests::generate::random::Random;
+use couplingnut_tests::guarded::{Against, Guarded};
 use couplingnut_tests::library;
 use couplingnut_tests::second::map::map_test;
 use couplingnut_tests::second::sender::{send, Order};
@@ -14,8 +17,6 @@ const READ: u64 = 1;
 const SINGLE_INSTRUCTION: u64 = 4;
 /// More than any order takes.
 const ROOMY: usize = 48_003 + 5;
-/// Bytes after the lent buffer, which nothing may touch.
-const BEYOND: usize = 16;
 
 /// Numbers of which a narrower type would keep something harmless.
 const WIDE: [u64; 10] = [
@@ -49,49 +50,70 @@ impl Given {
     }
 }
 
-/// Both map tests on the same bytes.
-fn compare_map(map: &[u8], given: &mut Given) {
+/// Both map tests on the same bytes, which end at an inaccessible page.
+fn compare_map(seed: u64, map: &[u8], memory: &mut Guarded, given: &mut Given) {
     let expected = map_test(map);
-    assert_eq!(library::map_test(map), u32::from(expected), "{map:02X?}");
+    let lent = memory.hold(map, Against::PageAfter);
+    let found = library::map_test(lent);
+    if found != u32::from(expected) || lent != map {
+        let told = format!("the map test gave {found}, expected {expected}, or altered the map");
+        differ("host::the_map_test", seed, &told, &format!("map {map:02X?}\n"));
+    }
     given.note(expected);
 }
 
-/// Both senders on the same order and the same buffer, which is compared whole,
-/// with the bytes after it.
-fn compare_order(order: &Order, room: usize, buffers: &mut Buffers, given: &mut Given) {
-    let [before, expected, found] = buffers.cut(room);
-    let answer = send(order, &mut expected[..room]);
-    let (number, samples) = library::send(order, &mut found[..room]);
-    let told = || format!("{order:X?} in {room} bytes");
-    assert_eq!(number, u32::from(answer.number), "{}", told());
-    assert_eq!(samples, answer.count as u64, "{}", told());
-    assert!(found == expected, "other samples, or another rest: {}", told());
-    assert!(number == 0 || found == before, "a refusal that writes: {}", told());
+/// Room for any map of these tests.
+fn map_memory() -> Guarded {
+    Guarded::new(32_768)
+}
+
+/// Both senders on the same order and the same buffer, which is compared whole.
+fn compare_order(seed: u64, order: &Order, room: usize, buffers: &mut Buffers, given: &mut Given) {
+    let against = if room.is_multiple_of(8) { Against::PageBefore } else { Against::PageAfter };
+    let before = &buffers.before[..room];
+    buffers.expected.truncate(0);
+    buffers.expected.extend(before);
+    let answer = send(order, &mut buffers.expected);
+    let found = buffers.out.hold(before, against);
+    let samples = buffers.samples.hold_number(0xDEAD_BEEF_DEAD_BEEF, against);
+    let lent = Order { data: buffers.data.hold(order.data, against), ..*order };
+    let number = library::send_into(&lent, found, samples);
+    let same = (number, *samples) == (u32::from(answer.number), answer.count as u64)
+        && found == buffers.expected
+        && (number == 0 || found == before)
+        && lent.data == order.data;
+    if !same {
+        let told = format!("the sender gave {number} and {samples} samples, expected {answer:?}");
+        let listing = format!(
+            "{order:X?} in {room} bytes\nfound {found:02X?}\nexpected {:02X?}\n",
+            buffers.expected
+        );
+        differ("host::the_sender", seed, &told, &listing);
+    }
     given.note(answer.number);
 }
 
-/// A buffer as it is before a call, and the two that are lent.
+/// What is lent to both senders: to the library, memory beside an inaccessible
+/// page.
 struct Buffers {
+    /// The outgoing buffer as it is before a call.
     before: Vec<u8>,
     expected: Vec<u8>,
-    found: Vec<u8>,
+    out: Guarded,
+    data: Guarded,
+    samples: Guarded,
 }
 
 impl Buffers {
     /// Bit 4 is set in each byte, and so none of them is a sample.
     fn new() -> Self {
-        let before: Vec<u8> = (0..ROOMY + BEYOND).map(|i| (i % 251) as u8 | 0x10).collect();
-        Buffers { expected: before.clone(), found: before.clone(), before }
-    }
-
-    /// All three, filled anew, with so much room and the bytes beyond it.
-    fn cut(&mut self, room: usize) -> [&mut [u8]; 3] {
-        let length = room + BEYOND;
-        let before = &mut self.before[..length];
-        let (expected, found) = (&mut self.expected[..length], &mut self.found[..length]);
-        expected.copy_from_slice(before);
-        found.copy_from_slice(before);
-        [before, expected, found]
+        Buffers {
+            before: (0..ROOMY).map(|i| (i % 251) as u8 | 0x10).collect(),
+            expected: Vec::with_capacity(ROOMY),
+            out: Guarded::new(ROOMY),
+            data: Guarded::new(1_002),
+            samples: Guarded::new(8),
+        }
     }
 }
 
@@ -107,10 +129,11 @@ fn needed(settings: u64, count: u64) -> usize {
 
 #[test]
 fn the_map_test_agrees_on_good_and_damaged_maps() {
-    let mut given = Given::default();
-    for seed in 0..MAPS {
+    let (mut given, mut memory) = (Given::default(), map_memory());
+    let first = number_from("SEED", 0);
+    for seed in first..first + MAPS {
         let mut random = Random::new(seed);
-        compare_map(&any_map(&mut random), &mut given);
+        compare_map(seed, &any_map(&mut random), &mut memory, &mut given);
     }
     given.assert_each(&[0, 2, 3], 20_000);
 }
@@ -142,20 +165,20 @@ fn any_map(random: &mut Random) -> Vec<u8> {
 
 #[test]
 fn the_map_test_looks_at_every_byte_and_length() {
-    let mut given = Given::default();
+    let (mut given, mut memory) = (Given::default(), map_memory());
     let map = simple_map(18);
     for length in 0..map.len() {
-        compare_map(&map[..length], &mut given);
+        compare_map(0, &map[..length], &mut memory, &mut given);
     }
     for at in 0..map.len() {
         for value in 0..=255 {
             let mut changed = map.clone();
             changed[at] = value;
-            compare_map(&changed, &mut given);
+            compare_map(0, &changed, &mut memory, &mut given);
         }
     }
     for count in [15, 16, 17, 8_191, 8_192, 8_193] {
-        compare_map(&simple_map(count), &mut given);
+        compare_map(0, &simple_map(count), &mut memory, &mut given);
     }
     given.assert_each(&[0, 2, 3], 50);
 }
@@ -177,7 +200,7 @@ fn the_sender_agrees_at_every_boundary() {
             (due.saturating_sub(1), exact),
         ] {
             let order = Order { direction, settings, start, count, data: &bytes[..length] };
-            compare_order(&order, room, &mut buffers, &mut given);
+            compare_order(0, &order, room, &mut buffers, &mut given);
         }
     }
     given.assert_each(&[0, 7, 8, 9, 10, 11], 50);
@@ -201,11 +224,12 @@ fn boundaries() -> impl Iterator<Item = [u64; 4]> {
 fn the_sender_agrees_on_good_and_damaged_orders() {
     let mut given = Given::default();
     let mut buffers = Buffers::new();
-    for seed in 0..ORDERS {
+    let first = number_from("SEED", 0);
+    for seed in first..first + ORDERS {
         let mut random = Random::new(seed);
         let bytes = random.bytes(1_002);
         let (order, room) = any_order(&mut random, &bytes);
-        compare_order(&order, room, &mut buffers, &mut given);
+        compare_order(seed, &order, room, &mut buffers, &mut given);
     }
     given.assert_each(&[0, 7, 8, 9, 10, 11], 2_000);
 }

@@ -1,12 +1,12 @@
-//! The known results of document 01, by the second implementation and, where
-//! the program can show them, by busread.
+//! The known results of document 01, by the second implementation and the
+//! library and, where the program can show them, by busread.
 
+use couplingnut_tests::both::{map_test, send};
 use couplingnut_tests::chip::{sent, Chip};
 use couplingnut_tests::generate::maps::{map_of, set_entry, simple_map};
 use couplingnut_tests::program::{busread, output_of, Feed};
-use couplingnut_tests::second::map::map_test;
 use couplingnut_tests::second::report::report;
-use couplingnut_tests::second::sender::{send, Order};
+use couplingnut_tests::second::sender::Order;
 use couplingnut_tests::second::session::next_address;
 use couplingnut_tests::second::Answer;
 

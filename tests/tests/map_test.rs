@@ -1,8 +1,8 @@
-//! The map test of the second implementation: numbers 2 and 3.
+//! The map test, by both sides: numbers 2 and 3.
 
+use couplingnut_tests::both::map_test;
 use couplingnut_tests::generate::maps::{count, entry_at, good_map, set_entry, simple_map, Damage};
 use couplingnut_tests::generate::random::Random;
-use couplingnut_tests::second::map::map_test;
 
 #[test]
 fn good_maps_pass() {

@@ -1,11 +1,13 @@
-//! The two calls of the reader in the second implementation: their numbers,
-//! what they leave alone, and the edges that are easily misread.
+//! Opening and reading, by both sides: their numbers, what they leave alone, and
+//! the edges that are easily misread.
 
+use couplingnut_tests::both::open;
 use couplingnut_tests::chip::{sent, Chip};
 use couplingnut_tests::generate::maps::{self, good_map, set_entry, simple_map};
 use couplingnut_tests::generate::random::Random;
+use couplingnut_tests::generate::sessions::{sound_session, unsound_sessions, USABLE};
 use couplingnut_tests::generate::traces::trace;
-use couplingnut_tests::second::reader::{most_records, open};
+use couplingnut_tests::second::reader::most_records;
 use couplingnut_tests::second::sender::Order;
 use couplingnut_tests::second::session::{Phase, Session, CSB, SCLK};
 use couplingnut_tests::second::settings::Settings;
@@ -131,44 +133,6 @@ fn pieces_read_one_by_one_are_the_trace_read_at_once() {
     }
 }
 
-/// A sound session of any kind, reachable or not.
-fn sound_session(random: &mut Random) -> Session {
-    let phase = random.pick(&[Phase::Rest, Phase::Instruction, Phase::Data]);
-    let sclk = random.pick(&[0, SCLK]);
-    let settings = any_settings(random);
-    if phase == Phase::Rest {
-        return Session { levels: CSB | sclk, settings, ..Session::opened() };
-    }
-    let bits = random.below(if phase == Phase::Data { 8 } else { 16 }) as u8;
-    let mut session = Session {
-        levels: sclk,
-        phase,
-        bits,
-        value: random.below(1 << bits) as u16,
-        settings,
-        in_use: any_of(random, &USABLE),
-        ..Session::opened()
-    };
-    if phase == Phase::Data {
-        session.address = random.below(0x8000) as u16;
-        session.read = random.coin();
-    }
-    session
-}
-
-/// The settings that an instruction takes in use.
-const USABLE: [Settings; 4] =
-    [Settings::LSB_FIRST, Settings::ASCENDING, Settings::SDO_ACTIVE, Settings::SINGLE_INSTRUCTION];
-
-fn any_settings(random: &mut Random) -> Settings {
-    any_of(random, &USABLE).with(any_of(random, &[Settings::BUFFER_READBACK, Settings::SLOW]))
-}
-
-fn any_of(random: &mut Random, settings: &[Settings]) -> Settings {
-    let chosen = settings.iter().filter(|_| random.coin());
-    chosen.fold(Settings::NONE, |sum, &one| sum.with(one))
-}
-
 #[test]
 fn sound_sessions_are_read_on_and_stay_sound() {
     let mut random = Random::new(8);
@@ -184,42 +148,14 @@ fn sound_sessions_are_read_on_and_stay_sound() {
     }
 }
 
-/// Sessions that break one condition of soundness each.
-fn unsound_sessions() -> Vec<Session> {
-    let rest = Session::opened();
-    let instruction = Session { levels: 0, phase: Phase::Instruction, ..rest };
-    let data = Session { levels: 0, phase: Phase::Data, address: 0x7FFF, read: true, ..rest };
-    let mut unsound = vec![
-        Session { levels: 0, ..rest },
-        Session { levels: SCLK, ..rest },
-        Session { levels: CSB, ..instruction },
-        Session { levels: CSB | SCLK, ..data },
-        Session { bits: 16, ..instruction },
-        Session { bits: 255, ..instruction },
-        Session { bits: 8, ..data },
-        Session { address: 0x8000, ..data },
-        Session { address: 0xFFFF, ..data },
-        Session { bits: 1, ..rest },
-        Session { value: 1, ..rest },
-        Session { address: 1, ..rest },
-        Session { read: true, ..rest },
-        Session { in_use: Settings::LSB_FIRST, ..rest },
-        Session { in_use: Settings::ASCENDING, ..rest },
-        Session { in_use: Settings::SDO_ACTIVE, ..rest },
-        Session { in_use: Settings::SINGLE_INSTRUCTION, ..rest },
-        Session { address: 1, ..instruction },
-        Session { read: true, ..instruction },
-        Session { levels: CSB | 4, ..rest },
-        Session { in_use: Settings::SLOW, ..data },
-    ];
-    unsound.extend((0..16).map(|bits| Session { bits, value: 1 << bits, ..instruction }));
-    unsound.extend((0..8).map(|bits| Session { bits, value: 1 << bits, ..data }));
-    unsound
-}
-
 #[test]
 fn every_condition_of_soundness_is_looked_at() {
-    for session in unsound_sessions() {
+    let rest = Session::opened();
+    let data = Session { levels: 0, phase: Phase::Data, ..rest };
+    // Fields of this implementation that hold more than they are meant for.
+    let overfull =
+        [Session { levels: CSB | 4, ..rest }, Session { in_use: Settings::SLOW, ..data }];
+    for session in unsound_sessions().into_iter().chain(overfull) {
         let mut chip = Chip::opened(&simple_map(16));
         chip.session = session;
         assert_refused(&chip, &[], 6, 1);

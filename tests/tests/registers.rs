@@ -1,5 +1,5 @@
-//! What a whole byte does, in the second implementation: writes, the control
-//! registers, and the byte that a read is due.
+//! What a whole byte does, by both sides: writes, the control registers, and the
+//! byte that a read is due.
 
 use couplingnut_tests::chip::{sent, Chip};
 use couplingnut_tests::generate::maps::{set_entry, simple_map};

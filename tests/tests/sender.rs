@@ -1,10 +1,11 @@
-//! The sender of the second implementation: its numbers at every boundary, its
+//! The sender, by both sides: its numbers at every boundary, its
 //! samples, and that reading them back gives what was ordered.
 
+use couplingnut_tests::both::send;
 use couplingnut_tests::chip::{sent, settings_of, Chip};
 use couplingnut_tests::generate::maps::good_map;
 use couplingnut_tests::generate::random::Random;
-use couplingnut_tests::second::sender::{send, Order};
+use couplingnut_tests::second::sender::Order;
 use couplingnut_tests::second::session::Session;
 use couplingnut_tests::second::Answer;
 

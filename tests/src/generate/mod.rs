@@ -1,8 +1,12 @@
 //! Inputs for `busread` from a seed: a map and a trace, good ones and all the
-//! ways in which they go wrong.
+//! ways in which they go wrong. [`calls`] makes what the library's calls are
+//! given, from the same maps and traces.
 
+pub mod calls;
 pub mod maps;
+pub mod orders;
 pub mod random;
+pub mod sessions;
 pub mod traces;
 
 use maps::Damage;

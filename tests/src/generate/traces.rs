@@ -66,6 +66,24 @@ pub fn trace(random: &mut Random, map: &[u8], length: usize, exactly: bool) -> V
     samples
 }
 
+/// So many samples with CSB low and a clock that never rests, so that a frame
+/// goes on in whatever piece it stands; CSB rises once in a while.
+pub fn clocks(random: &mut Random, length: usize) -> Vec<u8> {
+    let seldom = random.pick(&[5, 60, 400]);
+    let mut clock = random.pick(&[0, SCLK]);
+    let sample = |_| {
+        clock ^= SCLK;
+        let high = if random.one_in(seldom) { CSB } else { 0 };
+        random.byte() & (SDIO | SDO) | clock | high
+    };
+    (0..length).map(sample).collect()
+}
+
+/// So many samples without sense.
+pub fn noise(random: &mut Random, length: usize) -> Vec<u8> {
+    (0..length).map(|_| random.byte() & 0x0F).collect()
+}
+
 impl Master<'_> {
     fn something(&mut self, wild: bool) {
         match self.random.below(if wild { 12 } else { 32 }) {

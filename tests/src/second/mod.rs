@@ -10,6 +10,9 @@
 //! | `reader` | Records; Numbers given back, 1 to 6 |
 //! | `sender` | The sender; Numbers given back, 7 to 11 |
 //! | `report` | The bench program |
+//!
+//! The call for the next record, in `reader`, is the library's own: document 01
+//! does not have it.
 
 pub mod map;
 pub mod reader;

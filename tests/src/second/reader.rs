@@ -1,4 +1,5 @@
-//! The two calls of the reader: opening, and reading a trace into records.
+//! The calls of the reader: opening, reading a trace into records, and reading
+//! it up to its next record.
 
 use super::map::RegisterMap;
 use super::registers::Registers;
@@ -54,7 +55,7 @@ pub(super) fn read_into(
     samples: &[u8],
     records: &mut [u8],
 ) -> Answer {
-    if samples.len() > MOST_SAMPLES || any_spare_bit(samples) {
+    if refused_for_samples(samples) {
         return Answer::refused(5);
     }
     let room = records.len() / RECORD;
@@ -64,15 +65,56 @@ pub(super) fn read_into(
     Answer::done(write_records(registers, session, samples, records))
 }
 
+/// Reads on up to and with the first sample that gives a record, or all of
+/// them, and says beside the answer how many samples it took. Number 5 looks at
+/// all samples, number 6 at the one record; a refusal takes none.
+pub fn next_record(
+    map: &[u8],
+    session: &mut Session,
+    active: &mut [u8],
+    buffer: &mut [u8],
+    samples: &[u8],
+    records: &mut [u8],
+) -> (Answer, usize) {
+    if !session.is_sound() {
+        return (Answer::refused(1), 0);
+    }
+    match RegisterMap::new(map).and_then(|map| Registers::new(map, active, buffer)) {
+        Ok(mut registers) => next_record_into(&mut registers, session, samples, records),
+        Err(number) => (Answer::refused(number), 0),
+    }
+}
+
+fn next_record_into(
+    registers: &mut Registers,
+    session: &mut Session,
+    samples: &[u8],
+    records: &mut [u8],
+) -> (Answer, usize) {
+    if refused_for_samples(samples) {
+        return (Answer::refused(5), 0);
+    }
+    let (mut after, mut at) = (*session, 0);
+    let event = after.next_event(samples, &mut at);
+    if let Some(event) = event {
+        let Some(first) = records.first_chunk_mut() else {
+            return (Answer::refused(6), 0);
+        };
+        *first = record_of(event, registers, after.settings);
+    }
+    *session = after;
+    (Answer::done(usize::from(event.is_some())), at)
+}
+
 /// No more than these: the first sample may end a piece begun before, and
 /// every further record takes a low clock, a high one and an end at least.
 pub const fn most_records(samples: usize) -> usize {
     samples.div_ceil(3)
 }
 
-/// Whether a sample has any of bits 4 to 7 set.
-fn any_spare_bit(samples: &[u8]) -> bool {
-    samples.iter().fold(0, |seen, &sample| seen | sample) > 0x0F
+/// Whether they are too many, or one has any of bits 4 to 7 set.
+fn refused_for_samples(samples: &[u8]) -> bool {
+    samples.len() > MOST_SAMPLES || samples.iter().fold(0, |seen, &sample| seen | sample) > 0x0F
 }
 
 fn count_records(mut session: Session, samples: &[u8]) -> usize {

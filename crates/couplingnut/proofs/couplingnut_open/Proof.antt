@@ -1,0 +1,28 @@
+-- `couplingnut_open` meets its contract: it is `open`, and the session's bytes.
+use borrow.Author.Needs.{needs}
+use Rattle.couplingnut.proofs.Laws.{opened}
+use Rattle.couplingnut.proofs.couplingnut_open.Statement.{statement}
+use Rattle.couplingnut.proofs.couplingnut_open.Tie as tie
+
+open-requires : tie.Need-open-requires
+open-requires c κs = search needs
+
+bytes-of-requires : tie.Need-bytes-of-requires
+bytes-of-requires c κs = search needs
+
+cast-result : tie.Need-cast-result
+cast-result c = search needs
+
+same-length : tie.Need-same-length
+same-length c = search needs
+
+same-length-2 : tie.Need-same-length-2
+same-length-2 c = search needs
+
+returns : tie.Need-returns
+returns c = opened _ _ _ (c .before .bytes-of .ensures) (c .before .before .before .before .before .before .before .«open» .ensures)
+
+pub couplingnut-open-spec : {M : Type 1} → statement M
+couplingnut-open-spec =
+    tie.close
+    (tie.spec open-requires bytes-of-requires cast-result same-length same-length-2 returns)

@@ -1,0 +1,140 @@
+-- The number of the call, and what it leaves.
+use Prim.Native.Nat.{ℕ, zero, suc, _*_, _/_, _^_, _<_, _≤_}
+use mathlib.Core.Path.{_≡_, refl, sym, _∙_, ap}
+use mathlib.Core.Bool.{Bool, true, false, _&&_}
+use mathlib.Core.Logic.{_≢_}
+use mathlib.Core.List.{List, [], _∷_}
+use native.Mathlib.Omega.{arith}
+use lib.Dec.{eqb, leb}
+use lib.ListN.{length, take}
+use lib.Seq.{length-take-le}
+use borrow.Author.Tests.{eq-eqb, ne-eqb, le-leb, lt-leb, leb-true}
+use Rattle.bits.specs.Tests.{unless}
+use Rattle.bits.proofs.Cases.{yes, no, and-left, and-right}
+use Rattle.maptest.specs.MapTest.{mapNumber}
+use Rattle.session.specs.declared.Session.{Session}
+use Rattle.session.specs.declared.Event.{Event}
+use Rattle.session.specs.State.{soundSession}
+use Rattle.registers.specs.Banks.{banks, Mapped}
+use Rattle.records.specs.Records.{recordsIn}
+use Rattle.records.specs.Contracts.{Taking, Taken}
+use Rattle.records.proofs.Laws.{six, place-after}
+use Rattle.run.specs.Reading.{World, world, recordCount}
+use Rattle.run.specs.Contracts.{Ready}
+use Rattle.run.proofs.Bound.{records-bound}
+use Rattle.run.proofs.Counting.{counting-begun, counted-next, counting-ended}
+use Rattle.run.proofs.Laws.{begun, again, ended, records-size}
+use Rattle.refusals.specs.Numbers.{banksFit, samplesGood, readNumber}
+use Rattle.refusals.proofs.Laws.{ReadTests, read-tests, fits-mapped}
+use Rattle.reader.specs.Calls.{Outcome, outcome}
+use Rattle.reader.proofs.Laws.{read-done}
+use Rattle.nextrecord.specs.NextRecord.{samplesNumber, nextNumber, next, nextOf}
+use Rattle.nextrecord.specs.Contracts.{First}
+use Rattle.nextrecord.proofs.Search.{taken-first, next-take}
+
+-- numbers that agree where a test holds
+same-rest : (t : Bool) (n : ℕ) {p q : ℕ} → (t ≡ true → p ≡ q) → unless t n p ≡ unless t n q
+same-rest true n e = e refl
+same-rest false n e = refl
+
+-- with room for the records of any samples, the reader's number is that of the samples
+pub room-enough : (m : List ℕ) (w : World) (xs : List ℕ) → readNumber m w xs 131076 ≡ samplesNumber m w xs
+unfolding readNumber samplesNumber
+room-enough m w xs =
+    same-rest (soundSession (w .session)) 1
+    (λ t. same-rest (eqb (mapNumber m) 0) (mapNumber m)
+    (λ t. same-rest (banksFit m (w .banks)) 4
+    (λ t. same-rest (leb (length xs) 65536 && samplesGood xs) 5
+    (λ t.
+    let few : length xs ≤ 65536 = leb-true (length xs) 65536 (and-left (leb (length xs) 65536) (samplesGood xs) t) in
+    let fits : 6 * recordCount (w .session) xs ≤ 131076 = omega (arith, records-bound (w .session) xs) in
+    rw (le-leb (6 * recordCount (w .session) xs) 131076 fits)))))
+
+good-take : (k : ℕ) (xs : List ℕ) → samplesGood xs ≡ true → samplesGood (take k xs) ≡ true
+unfolding samplesGood
+good-take zero xs g = refl
+good-take (suc k) [] g = refl
+good-take (suc k) (x ∷ xs) g = rw (and-left (leb x 15) (samplesGood xs) g) (good-take k xs (and-right (leb x 15) (samplesGood xs) g))
+
+module _ (m : List ℕ) (s : Session) (act buf xs old : List ℕ) where
+  abbrev given : World
+  given = world s act buf
+
+  -- a call that is refused leaves all as it was
+  next-refused : (n : ℕ) → n ≡ nextNumber m given xs (length old) → n ≢ 0 → next (outcome n given 0 old) 0 ≡ nextOf m given xs old
+  unfolding nextOf
+  next-refused n e z =
+      no _ (ne-eqb (nextNumber m given xs (length old)) 0 (λ q. z (e ∙ q))) (ap (λ (k : ℕ). next (outcome k given 0 old) 0) e)
+
+  pub refused-before : (n : ℕ) → n ≡ samplesNumber m given xs → n ≢ 0 → next (outcome n given 0 old) 0 ≡ nextOf m given xs old
+  unfolding nextNumber
+  refused-before n e z = next-refused n (no _ (ne-eqb (samplesNumber m given xs) 0 (λ q. z (e ∙ q))) e) z
+
+  module _ (n : ℕ) (number : n ≡ samplesNumber m given xs) (zero-is : n ≡ 0) where
+    -- each test up to that of the samples holds
+    pub tested : ReadTests m given xs 131076
+    tested = read-tests m given xs 131076 (room-enough m given xs ∙ sym number ∙ zero-is)
+
+    few : length xs ≤ 65536
+    few = leb-true (length xs) 65536 (and-left (leb (length xs) 65536) (samplesGood xs) (tested .samples))
+
+    pub mapped : Mapped m (banks act buf)
+    mapped = fits-mapped m (banks act buf) (tested .good-map) (tested .fits)
+
+    module _ {e : Event} {t : Session} {j : ℕ} (f : First xs s e t j) where
+      short : length (take j xs) ≡ j
+      short = length-take-le j xs (f .within)
+
+      -- the samples that are read give the one record or none
+      count-first : recordCount s (take j xs) ≡ recordsIn e
+      count-first =
+          let end : length (take j xs) ≤ j = omega (arith, short) in
+          omega (arith, counting-ended end (counted-next (counting-begun (take j xs) s (tested .sound)) (next-take (f .within) (f .path))))
+
+      pub size-fits : 6 * recordsIn e < 2 ^ 64
+      size-fits = omega (arith, count-first, records-bound s (take j xs), short, f .within, few)
+
+      -- only the room is left to test
+      room-next : (r : ℕ) → r ≡ unless (leb (6 * recordsIn e) (length old)) 6 0 → r ≡ nextNumber m given xs (length old)
+      unfolding nextNumber
+      room-next r q = yes _ (eq-eqb (samplesNumber m given xs) 0 (sym number ∙ zero-is)) (rw (taken-first f, count-first) q)
+
+      pub no-room : length old < 6 * recordsIn e → next (outcome 6 given 0 old) 0 ≡ nextOf m given xs old
+      no-room h = next-refused 6 (room-next 6 (no _ (lt-leb (6 * recordsIn e) (length old) h) refl)) (λ q. omega arith)
+
+      module _ (room : 6 * recordsIn e ≤ length old) where
+        pub taking : Taking m (banks act buf) (s .settings) e old 0
+        taking = record { mapped = mapped; room = omega (arith, six m (banks act buf) (s .settings) e) }
+
+        -- the reader would not refuse just the samples that are read
+        not-refused : 0 ≡ readNumber m given (take j xs) (length old)
+        unfolding readNumber
+        not-refused =
+            let good : samplesGood (take j xs) ≡ true = good-take j xs (and-right (leb (length xs) 65536) (samplesGood xs) (tested .samples)) in
+            let less : length (take j xs) ≤ 65536 = omega (arith, short, f .within, few) in
+            let fits : 6 * recordCount s (take j xs) ≤ length old = omega (arith, count-first) in
+            let samples : (leb (length (take j xs)) 65536 && samplesGood (take j xs)) ≡ true = rw (le-leb (length (take j xs)) 65536 less) good in
+            yes _ (tested .sound)
+            (yes _ (eq-eqb (mapNumber m) 0 (tested .good-map))
+            (yes _ (tested .fits)
+            (yes _ samples
+            (yes _ (le-leb (6 * recordCount s (take j xs)) (length old) fits) refl))))
+
+        ready : Ready true m given (take j xs) old
+        ready = record {
+          sound = tested .sound;
+          few = omega (arith, short, f .within, few);
+          mapped = λ p. mapped;
+          room = λ p. omega (arith, records-size m (take j xs) given, count-first);
+        }
+
+        pub next-done : {act′ buf′ new : List ℕ} {size : ℕ} → Taken m (banks act buf) (s .settings) e old 0 (banks act′ buf′) new size
+            → (count : ℕ) → count ≡ recordsIn e → next (outcome 0 (world t act′ buf′) count new) j ≡ nextOf m given xs old
+        unfolding nextOf
+        next-done {act′} {buf′} {new} {size} a count c =
+            let end : length (take j xs) ≤ j = omega (arith, short) in
+            let done = ended end (again (begun m (take j xs) given old ready) (next-take (f .within) (f .path)) act′ buf′ new size a) in
+            let same : size / 6 ≡ count = omega (arith, place-after a) in
+            let number : nextNumber m given xs (length old) ≡ 0 = sym (room-next 0 (yes _ (le-leb (6 * recordsIn e) (length old) room) refl)) in
+            let read = rw same at (read-done m given (take j xs) old 0 not-refused refl (world t act′ buf′) size new done) in
+            yes _ (eq-eqb (nextNumber m given xs (length old)) 0 number) (rw (taken-first f) (ap (λ (o : Outcome). next o j) read))

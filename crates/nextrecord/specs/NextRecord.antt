@@ -1,0 +1,56 @@
+-- The next record: samples are read up to and with the first that gives a record, or all of them.
+use Prim.Native.Nat.{ℕ, _+_, _*_}
+use mathlib.Core.Bool.{cond, _&&_}
+use mathlib.Core.List.{List, [], _∷_}
+use lib.ListN.{length, take}
+use lib.Dec.{eqb, leb}
+use Rattle.bits.specs.Tests.{unless}
+use Rattle.maptest.specs.MapTest.{mapNumber}
+use Rattle.session.specs.declared.Session.{Session}
+use Rattle.session.specs.State.{soundSession}
+use Rattle.session.specs.Step.{stepOf}
+use Rattle.session.specs.Event.{eventOf}
+use Rattle.records.specs.Records.{recordsIn}
+use Rattle.run.specs.Reading.{World, recordCount}
+use Rattle.refusals.specs.Numbers.{banksFit, samplesGood}
+use Rattle.reader.specs.Calls.{Outcome, outcome, readOf}
+
+-- how many samples are read
+unfoldable pub takenOf : Session → List ℕ → ℕ
+takenOf s [] = 0
+takenOf s (x ∷ xs) = cond (eqb (recordsIn (eventOf s x)) 0) (takenOf (stepOf s x) xs + 1) 1
+
+-- the samples that are read
+abbrev pub firstOf : Session → List ℕ → List ℕ
+firstOf s xs = take (takenOf s xs) xs
+
+-- Document 01, "Numbers given back": the reader's numbers up to 5, which looks at all samples handed in.
+unfoldable pub samplesNumber : List ℕ → World → List ℕ → ℕ
+samplesNumber m w samples =
+    unless (soundSession (w .session)) 1
+    (unless (eqb (mapNumber m) 0) (mapNumber m)
+    (unless (banksFit m (w .banks)) 4
+    (unless (leb (length samples) 65536 && samplesGood samples) 5
+    0)))
+
+-- The number of the call: 6 looks only at the record of the samples that are read.
+unfoldable pub nextNumber : List ℕ → World → List ℕ → ℕ → ℕ
+nextNumber m w samples room =
+    unless (eqb (samplesNumber m w samples) 0) (samplesNumber m w samples)
+    (unless (leb (6 * recordCount (w .session) (firstOf (w .session) samples)) room) 6
+    0)
+
+-- what the call leaves: what a call of the reader leaves, and how many samples were read
+pub record Next : Type 0 where
+  pub outcome : Outcome
+  pub taken : ℕ
+
+abbrev pub next : Outcome → ℕ → Next
+next o taken = record { outcome = o; taken = taken }
+
+-- The call is `read` of just the samples that are read. A refusal leaves all as it was, and no sample is read.
+unfoldable pub nextOf : List ℕ → World → List ℕ → List ℕ → Next
+nextOf m w samples records =
+    cond (eqb (nextNumber m w samples (length records)) 0)
+    (next (readOf m w (firstOf (w .session) samples) records) (takenOf (w .session) samples))
+    (next (outcome (nextNumber m w samples (length records)) w 0 records) 0)

@@ -1,0 +1,115 @@
+// The next record: samples are read up to and with the first that gives a record, so that a host knows at which sample each
+// record stands.
+//
+// One public call, `next_record`, with no `requires`; it refuses as `read` does, before anything is changed.
+ghost use mathlib.Core.Path.{_≡_};
+ghost use mathlib.Core.Bool.{true};
+ghost use Rattle.session.specs.State.{soundSession};
+ghost use Rattle.run.specs.Reading.{world};
+ghost use Rattle.reader.specs.Calls.{outcome};
+ghost use Rattle.nextrecord.specs.NextRecord.{samplesNumber, next, nextOf};
+ghost use Rattle.nextrecord.specs.Contracts.{First};
+use maptest::map_test;
+use records::RECORD;
+use records::records_in;
+use records::take_event;
+use refusals::read_refusal;
+use session::Event;
+use session::Session;
+use soundness::sound;
+use trace::Next;
+use trace::next_event;
+
+// What the call answers: the number, the next session, how many records there are, none or one, and how many samples were read.
+pub struct NextRecord {
+    pub number: u8,
+    pub session: Session,
+    pub count: usize,
+    pub taken: usize,
+}
+
+// Room for the records of any samples that are not refused: 65,536 give at most 21,846.
+const ROOM: usize = 131076;
+
+// The number that the samples, and all that comes before them, are refused with; 0 where only the room is left to test.
+fn samples_refusal(map: &[u8], session: Session, active: &[u8], buffer: &[u8], samples: &[u8]) -> u8
+    ensures { λ r. ⌜ r ≡ samplesNumber (now (map .entry)) (world session (now (active .entry)) (now (buffer .entry))) (now (samples .entry)) ⌝ }
+{
+    let refused = map_test(map);
+    if refused == 0 {
+        return read_refusal(map, session, active, buffer, samples, ROOM);
+    }
+    if sound(session) {
+        return refused;
+    }
+    1
+}
+
+// The samples up to and with the first that gives an event, or all of them.
+fn first_event(session: Session, samples: &[u8]) -> Next
+    requires { ⌜ soundSession session ≡ true ⌝ }
+    ensures { λ r. ⌜ First (now (samples .entry)) session (r .event) (r .session) (r .at) ⌝ }
+{
+    let mut s = session;
+    let mut at: usize = 0;
+    while at < samples.len() {
+        let next = next_event(s, samples, at);
+        let event = next.event;
+        s = next.session;
+        at = next.at;
+        if records_in(event) != 0 {
+            return Next {
+                event: event,
+                session: s,
+                at: at,
+            };
+        }
+    }
+    Next {
+        event: Event::Nothing,
+        session: s,
+        at: at,
+    }
+}
+
+// Reads samples up to and with the first that gives a record, or all of them.
+pub fn next_record(
+    map: &[u8],
+    session: Session,
+    active: &mut [u8],
+    buffer: &mut [u8],
+    samples: &[u8],
+    records: &mut [u8],
+) -> NextRecord
+    ensures { λ r. ⌜ next (outcome (r .number) (world (r .session) (now (active .exit)) (now (buffer .exit))) (r .count) (now (records .exit))) (r .taken) ≡ nextOf (now (map .entry)) (world session (now (active .entry)) (now (buffer .entry))) (now (samples .entry)) (now (records .entry)) ⌝ }
+{
+    let refused = samples_refusal(map, session, active, buffer, samples);
+    if refused != 0 {
+        return NextRecord {
+            number: refused,
+            session: session,
+            count: 0,
+            taken: 0,
+        };
+    }
+    let first = first_event(session, samples);
+    let event = first.event;
+    let count = records_in(event);
+    if records.len() < RECORD * count {
+        return NextRecord {
+            number: 6,
+            session: session,
+            count: 0,
+            taken: 0,
+        };
+    }
+    let settings = session.settings;
+    take_event(map, active, buffer, settings, event, records, 0);
+    let after = first.session;
+    NextRecord {
+        number: 0,
+        session: after,
+        count: count,
+        taken: first.at,
+    }
+}

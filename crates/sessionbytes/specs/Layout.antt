@@ -1,0 +1,93 @@
+-- The session as bytes, so that it can cross to a host.
+use Prim.Native.Nat.{ℕ, _+_, _*_, _/_, _%_}
+use mathlib.Core.Bool.{Bool, cond}
+use mathlib.Core.List.{List, [], _∷_, _++_}
+use lib.ListN.{length, getD}
+use lib.Dec.{eqb, leb}
+use Rattle.bits.specs.Bits.{bitOf}
+use Rattle.bits.specs.Tests.{every}
+use Rattle.settings.specs.declared.Settings.{Settings}
+use Rattle.settings.specs.declared.InUse.{InUse}
+use Rattle.session.specs.declared.Phase.{Phase}
+use Rattle.session.specs.declared.Phase.the-variants.{Rest, Instruction, Data}
+use Rattle.session.specs.declared.Session.{Session}
+
+-- how many bytes a session has
+abbrev pub sessionSize : ℕ
+sessionSize = 20
+
+-- the version of the layout: another layout has another one
+abbrev pub layoutVersion : ℕ
+layoutVersion = 1
+
+-- 0 rest, 1 instruction, 2 data
+abbrev pub phaseByte : Phase → ℕ
+phaseByte Rest = 0
+phaseByte Instruction = 1
+phaseByte Data = 2
+
+abbrev pub phaseOf : ℕ → Phase
+phaseOf x = cond (eqb x 0) Rest (cond (eqb x 1) Instruction Data)
+
+-- the settings, a byte each
+abbrev pub settingsBytes : Settings → List ℕ
+settingsBytes t =
+    bitOf (t .lsb) ∷ bitOf (t .ascending) ∷ bitOf (t .sdo) ∷ bitOf (t .single) ∷ bitOf (t .readback) ∷ bitOf (t .slow) ∷ []
+
+-- the settings in use
+abbrev pub usedBytes : InUse → List ℕ
+usedBytes u = bitOf (u .lsb) ∷ bitOf (u .ascending) ∷ bitOf (u .sdo) ∷ bitOf (u .single) ∷ []
+
+-- The bytes of a session: the version, the last levels of CSB and SCLK, the phase, the bits taken and their value, the address,
+-- the direction, the settings and those in use. What has 16 bits is big-endian.
+unfoldable pub sessionBytes : Session → List ℕ
+sessionBytes s =
+    layoutVersion ∷ bitOf (s .csb) ∷ bitOf (s .sclk) ∷ phaseByte (s .phase)
+    ∷ s .bits ∷ s .value / 256 ∷ s .value % 256 ∷ s .address / 256 ∷ s .address % 256 ∷ bitOf (s .read)
+    ∷ settingsBytes (s .settings) ++ usedBytes (s .used)
+
+-- the byte at a place
+abbrev byteAt : List ℕ → ℕ → ℕ
+byteAt b i = getD b i 0
+
+-- this version, a phase of 0 to 2, and flags of 0 or 1
+abbrev pub fieldTests : List ℕ → List Bool
+fieldTests b =
+    eqb (byteAt b 0) layoutVersion
+    ∷ leb (byteAt b 1) 1 ∷ leb (byteAt b 2) 1 ∷ leb (byteAt b 3) 2 ∷ leb (byteAt b 9) 1
+    ∷ leb (byteAt b 10) 1 ∷ leb (byteAt b 11) 1 ∷ leb (byteAt b 12) 1 ∷ leb (byteAt b 13) 1 ∷ leb (byteAt b 14) 1 ∷ leb (byteAt b 15) 1
+    ∷ leb (byteAt b 16) 1 ∷ leb (byteAt b 17) 1 ∷ leb (byteAt b 18) 1 ∷ leb (byteAt b 19) 1
+    ∷ []
+
+-- Whether bytes are a session: as many as it has, and each field is one.
+unfoldable pub areSession : List ℕ → Bool
+areSession b = every (eqb (length b) sessionSize ∷ fieldTests b)
+
+-- two bytes as a number, big-endian
+abbrev pub wordOf : ℕ → ℕ → ℕ
+wordOf high low = high * 256 + low
+
+-- whether the flag at a place is set
+abbrev flagAt : List ℕ → ℕ → Bool
+flagAt b i = eqb (byteAt b i) 1
+
+-- The session that bytes are.
+unfoldable pub sessionOf : List ℕ → Session
+sessionOf b = record {
+  csb = flagAt b 1;
+  sclk = flagAt b 2;
+  phase = phaseOf (byteAt b 3);
+  bits = byteAt b 4;
+  value = wordOf (byteAt b 5) (byteAt b 6);
+  address = wordOf (byteAt b 7) (byteAt b 8);
+  read = flagAt b 9;
+  settings = record {
+    lsb = flagAt b 10;
+    ascending = flagAt b 11;
+    sdo = flagAt b 12;
+    single = flagAt b 13;
+    readback = flagAt b 14;
+    slow = flagAt b 15;
+  };
+  used = record { lsb = flagAt b 16; ascending = flagAt b 17; sdo = flagAt b 18; single = flagAt b 19 };
+}

@@ -1,0 +1,128 @@
+// The session as bytes: it crosses so to a host, which knows none of our structs. The layout is in specs/Layout.antt.
+ghost use mathlib.Core.Path.{_≡_};
+ghost use lib.ListN.{length};
+ghost use Rattle.sessionbytes.specs.Layout.{sessionSize, phaseByte, phaseOf, wordOf, sessionBytes, areSession, sessionOf};
+use session::Phase;
+use session::Session;
+use settings::InUse;
+use settings::Settings;
+
+// How many bytes a session has.
+pub const SIZE: usize = 20;
+
+// The version of the layout: the first byte.
+const VERSION: u8 = 1;
+
+// The byte of a phase.
+fn phase_byte(phase: Phase) -> u8
+    ensures { λ r. ⌜ r ≡ phaseByte phase ⌝ }
+{
+    match phase {
+        Phase::Rest => 0,
+        Phase::Instruction => 1,
+        Phase::Data => 2,
+    }
+}
+
+// The phase of a byte.
+fn phase_of(byte: u8) -> Phase
+    ensures { λ r. ⌜ r ≡ phaseOf byte ⌝ }
+{
+    if byte == 0 {
+        return Phase::Rest;
+    }
+    if byte == 1 {
+        return Phase::Instruction;
+    }
+    Phase::Data
+}
+
+// Two bytes as a number.
+fn word(high: u8, low: u8) -> u16
+    ensures { λ r. ⌜ r ≡ wordOf high low ⌝ }
+{
+    high as u16 * 256 + low as u16
+}
+
+// The bytes of a session.
+pub fn bytes_of(session: Session) -> [u8; SIZE]
+    ensures { λ r. ⌜ r ≡ sessionBytes session ⌝ }
+{
+    let phase = session.phase;
+    [
+        VERSION,
+        session.csb as u8,
+        session.sclk as u8,
+        phase_byte(phase),
+        session.bits,
+        (session.value / 256) as u8,
+        (session.value % 256) as u8,
+        (session.address / 256) as u8,
+        (session.address % 256) as u8,
+        session.read as u8,
+        session.settings.lsb as u8,
+        session.settings.ascending as u8,
+        session.settings.sdo as u8,
+        session.settings.single as u8,
+        session.settings.readback as u8,
+        session.settings.slow as u8,
+        session.used.lsb as u8,
+        session.used.ascending as u8,
+        session.used.sdo as u8,
+        session.used.single as u8,
+    ]
+}
+
+// Whether bytes are a session: as many as it has, the version, a phase, and flags that are 0 or 1.
+pub fn are_session(bytes: &[u8]) -> bool
+    ensures { λ r. ⌜ r ≡ areSession (now (bytes .entry)) ⌝ }
+{
+    if bytes.len() != SIZE {
+        return false;
+    }
+    (bytes[0] == VERSION)
+        & (bytes[1] <= 1)
+        & (bytes[2] <= 1)
+        & (bytes[3] <= 2)
+        & (bytes[9] <= 1)
+        & (bytes[10] <= 1)
+        & (bytes[11] <= 1)
+        & (bytes[12] <= 1)
+        & (bytes[13] <= 1)
+        & (bytes[14] <= 1)
+        & (bytes[15] <= 1)
+        & (bytes[16] <= 1)
+        & (bytes[17] <= 1)
+        & (bytes[18] <= 1)
+        & (bytes[19] <= 1)
+}
+
+// The session that bytes are.
+pub fn session_of(bytes: &[u8]) -> Session
+    requires { ⌜ length (now bytes) ≡ sessionSize ⌝ }
+    ensures { λ r. ⌜ r ≡ sessionOf (now (bytes .entry)) ⌝ }
+{
+    Session {
+        csb: bytes[1] == 1,
+        sclk: bytes[2] == 1,
+        phase: phase_of(bytes[3]),
+        bits: bytes[4],
+        value: word(bytes[5], bytes[6]),
+        address: word(bytes[7], bytes[8]),
+        read: bytes[9] == 1,
+        settings: Settings {
+            lsb: bytes[10] == 1,
+            ascending: bytes[11] == 1,
+            sdo: bytes[12] == 1,
+            single: bytes[13] == 1,
+            readback: bytes[14] == 1,
+            slow: bytes[15] == 1,
+        },
+        used: InUse {
+            lsb: bytes[16] == 1,
+            ascending: bytes[17] == 1,
+            sdo: bytes[18] == 1,
+            single: bytes[19] == 1,
+        },
+    }
+}

@@ -1,0 +1,66 @@
+//! The book of document 01's stopped run, written down directly.
+
+use crate::chip::Chip;
+use crate::generate::maps::entry_at;
+use crate::second::sender::Order;
+
+/// The two banks, and the writes of whole bytes by the writing rule.
+struct Book<'a> {
+    map: &'a [u8],
+    active: Vec<u8>,
+    buffer: Vec<u8>,
+}
+
+impl Book<'_> {
+    fn entry(&self, address: usize) -> Option<&[u8]> {
+        self.map.get(entry_at(address)..entry_at(address) + 3)
+    }
+
+    fn write(&mut self, address: usize, v: u8) {
+        let masked = |old: u8, mask: u8| {
+            (0..8)
+                .map(|i| 1 << i)
+                .filter(|bit| if mask & bit != 0 { v } else { old } & bit != 0)
+                .sum()
+        };
+        match self.entry(address) {
+            Some(&[2, mask, _]) => self.active[address] = masked(self.active[address], mask),
+            Some(&[3, mask, _]) => self.buffer[address] = masked(self.buffer[address], mask),
+            Some(&[4, ..]) if address == 0x0000 && (v >= 0x80 || v % 2 == 1) => self.reset(),
+            Some(&[4, ..]) if address == 0x000F && v % 2 == 1 => self.transfer(),
+            _ => {}
+        }
+    }
+
+    fn reset(&mut self) {
+        for address in 0..self.active.len() {
+            let default = self.map[entry_at(address) + 2];
+            self.active[address] = default;
+            self.buffer[address] = default;
+        }
+    }
+
+    fn transfer(&mut self) {
+        for address in 0..self.active.len() {
+            if self.map[entry_at(address)] == 3 {
+                self.active[address] = self.buffer[address];
+            }
+        }
+    }
+}
+
+/// The banks after the order's bytes that are whole when s samples were sent.
+pub fn book(chip: &Chip, order: &Order, s: usize) -> (Vec<u8>, Vec<u8>) {
+    let (active, buffer) = (chip.active.clone(), chip.buffer.clone());
+    let mut book = Book { map: &chip.map, active, buffer };
+    let mut address = order.start as usize;
+    for (i, &v) in (1..).zip(order.data) {
+        let whole = if order.settings & 4 == 0 { 33 + 16 * i } else { 48 * i + 1 };
+        if s < whole {
+            break;
+        }
+        book.write(address, v);
+        address = (address + if order.settings & 2 == 0 { 0x7FFF } else { 1 }) % 0x8000;
+    }
+    (book.active, book.buffer)
+}

@@ -1,0 +1,355 @@
+//! The reader's calls of the library against the second implementation: all
+//! that a call answers and leaves is compared, and a difference is kept.
+
+use std::fs::{self, File};
+use std::os::unix::fs::FileExt;
+
+use crate::environment::{differ, difference_path};
+use crate::guarded::{Against, Guarded};
+use crate::layout::{from_bytes, to_bytes, SessionBytes, SESSION_SIZE};
+use crate::library::{self, Lent};
+use crate::second::reader::{self, CUT, READ, RECORD};
+use crate::second::session::Session;
+use crate::second::Answer;
+
+/// What a count holds before a call, so that one that is not written is seen.
+const NOT_WRITTEN: u64 = 0xDEAD_BEEF_DEAD_BEEF;
+
+/// The file that holds the seed of the present case.
+const RUNNING: &str = "running";
+
+#[derive(Clone, Copy, Debug, PartialEq, Eq)]
+pub enum Call {
+    Open,
+    Read,
+    NextRecord,
+}
+
+impl Call {
+    /// Those that take samples.
+    pub const READING: [Call; 2] = [Call::Read, Call::NextRecord];
+}
+
+/// What a call is given. Opening leaves samples and records alone.
+#[derive(Clone, Debug, PartialEq, Eq)]
+pub struct Given {
+    pub map: Vec<u8>,
+    pub session: SessionBytes,
+    pub active: Vec<u8>,
+    pub buffer: Vec<u8>,
+    pub samples: Vec<u8>,
+    pub records: Vec<u8>,
+}
+
+/// All that a call answers, and all lent memory after it. A count that the call
+/// does not have is 0.
+#[derive(Clone, Debug, PartialEq, Eq)]
+pub struct Left {
+    pub number: u32,
+    pub count: u64,
+    pub taken: u64,
+    pub session: SessionBytes,
+    pub active: Vec<u8>,
+    pub buffer: Vec<u8>,
+    pub records: Vec<u8>,
+    /// That map and samples are as they were.
+    pub inputs_kept: bool,
+}
+
+impl Given {
+    /// A call that nothing refuses: a good map after opening, and no samples.
+    pub fn opened(map: &[u8]) -> Self {
+        let count = (map.len() - 5) / 3;
+        let mut given = Given {
+            map: map.to_vec(),
+            session: [0; SESSION_SIZE],
+            active: vec![0; count],
+            buffer: vec![0; count],
+            samples: Vec::new(),
+            records: Vec::new(),
+        };
+        let left = given.expected(Call::Open);
+        assert_eq!(left.number, 0, "the map is good");
+        given.go_on(&left);
+        given
+    }
+
+    /// Takes over the session and the banks that a call left.
+    pub fn go_on(&mut self, left: &Left) {
+        self.session = left.session;
+        self.active.clone_from(&left.active);
+        self.buffer.clone_from(&left.buffer);
+    }
+
+    /// How many records the samples have, if nothing but their room refuses
+    /// the call.
+    pub fn records_due(&self, call: Call) -> usize {
+        let ample = vec![0; RECORD * reader::most_records(self.samples.len())];
+        Given { records: ample, ..self.clone() }.expected(call).count as usize
+    }
+
+    /// All as it was, beside this answer.
+    pub fn untouched(&self, number: u32) -> Left {
+        Left {
+            number,
+            count: 0,
+            taken: 0,
+            session: self.session,
+            active: self.active.clone(),
+            buffer: self.buffer.clone(),
+            records: self.records.clone(),
+            inputs_kept: true,
+        }
+    }
+
+    /// What the second implementation makes of the call.
+    pub fn expected(&self, call: Call) -> Left {
+        let mut left = self.untouched(1);
+        if call == Call::Open {
+            let opened = reader::open(&self.map, &mut left.active, &mut left.buffer);
+            left.number = u32::from(opened.0);
+            left.session = to_bytes(&opened.1);
+        } else if let Some(session) = from_bytes(&self.session) {
+            self.expect_read(call, session, &mut left);
+        }
+        left
+    }
+
+    fn listing(&self) -> String {
+        lines(&[
+            ("map", &self.map),
+            ("session", &self.session),
+            ("active", &self.active),
+            ("buffer", &self.buffer),
+            ("samples", &self.samples),
+            ("records", &self.records),
+        ])
+    }
+
+    fn expect_read(&self, call: Call, mut session: Session, left: &mut Left) {
+        let Given { map, samples, .. } = self;
+        let Left { active, buffer, records, .. } = left;
+        let next = &mut session;
+        let (Answer { number, count }, taken) = match call {
+            Call::NextRecord => reader::next_record(map, next, active, buffer, samples, records),
+            _ => (reader::read(map, next, active, buffer, samples, records), 0),
+        };
+        left.number = u32::from(number);
+        left.count = count as u64;
+        left.taken = taken as u64;
+        left.session = to_bytes(&session);
+    }
+}
+
+impl Left {
+    fn listing(&self) -> String {
+        let Left { number, count, taken, .. } = self;
+        let told = format!("number {number}, count {count}, taken {taken}\n");
+        told + &lines(&[
+            ("session", &self.session),
+            ("active", &self.active),
+            ("buffer", &self.buffer),
+            ("records", &self.records),
+        ])
+    }
+}
+
+/// Guarded memory for everything that a call of the reader is lent.
+pub struct Memory {
+    map: Guarded,
+    session: Guarded,
+    active: Guarded,
+    buffer: Guarded,
+    samples: Guarded,
+    records: Guarded,
+    count: Guarded,
+    taken: Guarded,
+    pub against: Against,
+}
+
+impl Default for Memory {
+    fn default() -> Self {
+        Memory {
+            map: Guarded::new(32_768),
+            session: Guarded::new(SESSION_SIZE),
+            active: Guarded::new(32_768),
+            buffer: Guarded::new(32_768),
+            samples: Guarded::new(70_000),
+            records: Guarded::new(RECORD * 70_000),
+            count: Guarded::new(8),
+            taken: Guarded::new(8),
+            against: Against::PageAfter,
+        }
+    }
+}
+
+impl Memory {
+    /// What the library makes of the call.
+    pub fn product(&mut self, call: Call, given: &Given) -> Left {
+        let session = self.session.hold(&given.session, self.against);
+        let mut lent = Lent {
+            map: self.map.hold(&given.map, self.against),
+            session: session.try_into().expect("a session has its size"),
+            active: self.active.hold(&given.active, self.against),
+            buffer: self.buffer.hold(&given.buffer, self.against),
+            samples: self.samples.hold(&given.samples, self.against),
+            records: self.records.hold(&given.records, self.against),
+            count: self.count.hold_number(NOT_WRITTEN, self.against),
+            taken: self.taken.hold_number(NOT_WRITTEN, self.against),
+        };
+        let (number, has_count, has_taken) = match call {
+            Call::Open => (library::open(&mut lent), false, false),
+            Call::Read => (library::read(&mut lent), true, false),
+            Call::NextRecord => (library::next_record(&mut lent), true, true),
+        };
+        Left {
+            number,
+            count: if has_count { *lent.count } else { 0 },
+            taken: if has_taken { *lent.taken } else { 0 },
+            session: *lent.session,
+            active: lent.active.to_vec(),
+            buffer: lent.buffer.to_vec(),
+            records: lent.records.to_vec(),
+            inputs_kept: lent.map == given.map && lent.samples == given.samples,
+        }
+    }
+}
+
+/// What the compared calls came to, so that a test can say that they reached
+/// what it is about.
+#[derive(Default)]
+pub struct Tally {
+    pub calls: u64,
+    /// How often each call gave each number.
+    pub numbers: [[u64; 7]; 3],
+    pub writes_by_effect: [u64; 6],
+    pub reads_by_difference: [u64; 2],
+    /// By the piece, instruction or data, and its bits.
+    pub cuts: [[u64; 16]; 2],
+}
+
+impl Tally {
+    fn note(&mut self, call: Call, left: &Left) {
+        self.calls += 1;
+        self.numbers[call as usize][left.number as usize] += 1;
+        for record in left.records.chunks(RECORD).take(left.count as usize) {
+            let [kind, _, _, third, fourth, fifth] = record.try_into().expect("a whole record");
+            match kind {
+                CUT => self.cuts[usize::from(fourth)][usize::from(third)] += 1,
+                READ => self.reads_by_difference[usize::from(fifth)] += 1,
+                _ => self.writes_by_effect[usize::from(fifth)] += 1,
+            }
+        }
+    }
+
+    /// That every kind of record was met so often.
+    pub fn assert_records(&self, times: u64) {
+        let met = |what: &str, counts: &[u64]| {
+            assert!(counts.iter().all(|&count| count >= times), "{what}: {counts:?}");
+        };
+        met("writes by effect", &self.writes_by_effect);
+        met("reads", &self.reads_by_difference);
+        met("cuts of an instruction", &self.cuts[0][1..]);
+        met("cuts of a byte", &self.cuts[1][1..8]);
+    }
+
+    /// That a call gave these numbers so often, and no others.
+    pub fn assert_numbers(&self, call: Call, numbers: &[usize], times: u64) {
+        for (number, &given) in self.numbers[call as usize].iter().enumerate() {
+            let expected = if numbers.contains(&number) { times..=u64::MAX } else { 0..=0 };
+            assert!(expected.contains(&given), "{call:?}: number {number} was given {given} times");
+        }
+    }
+}
+
+/// A list of compared calls. While it runs, a file holds the seed of the
+/// present case, for a call that kills the test.
+pub struct Comparison {
+    /// The test, by its path.
+    subject: &'static str,
+    seed: u64,
+    memory: Memory,
+    running: File,
+    pub tally: Tally,
+}
+
+impl Comparison {
+    pub fn new(subject: &'static str) -> Self {
+        let running =
+            File::create(difference_path(subject, RUNNING)).expect("a file for the present seed");
+        Comparison { subject, seed: 0, memory: Memory::default(), running, tally: Tally::default() }
+    }
+
+    /// Begins the case of a seed.
+    pub fn begin(&mut self, seed: u64, against: Against) {
+        self.seed = seed;
+        self.memory.against = against;
+        let text = format!("SEED={seed:<20}\n");
+        self.running.write_all_at(text.as_bytes(), 0).expect("the present seed can be kept");
+    }
+
+    /// The call by both; what it left, if they agree.
+    pub fn call(&mut self, call: Call, given: &Given) -> Left {
+        let found = self.memory.product(call, given);
+        let expected = given.expected(call);
+        if found != expected {
+            self.differ(call, given, &found, &expected);
+        }
+        if found.number != 0 {
+            // By itself, whatever the second implementation does.
+            let session = if call == Call::Open { found.session } else { given.session };
+            let kept = Left { session, ..given.untouched(found.number) };
+            if found != kept {
+                self.differ(call, given, &found, &kept);
+            }
+        }
+        self.tally.note(call, &found);
+        found
+    }
+
+    /// Keeps all of a call that differs, and fails.
+    fn differ(&self, call: Call, given: &Given, found: &Left, expected: &Left) -> ! {
+        let told = format!(
+            "{call:?} gave {}, expected {}; what differs: {}; memory against the {:?}",
+            found.number,
+            expected.number,
+            differing(found, expected).join(", "),
+            self.memory.against
+        );
+        let listing = format!(
+            "given\n{}\nfound\n{}\nexpected\n{}",
+            given.listing(),
+            found.listing(),
+            expected.listing()
+        );
+        differ(self.subject, self.seed, &told, &listing)
+    }
+}
+
+impl Drop for Comparison {
+    /// Nothing is running any more; a test that was killed does not come here.
+    fn drop(&mut self) {
+        fs::remove_file(difference_path(self.subject, RUNNING)).ok();
+    }
+}
+
+/// Bytes by their names, a line each.
+fn lines(named: &[(&str, &[u8])]) -> String {
+    let hex = |bytes: &[u8]| bytes.iter().map(|byte| format!(" {byte:02X}")).collect::<String>();
+    named.iter().map(|(name, bytes)| format!("{name}:{}\n", hex(bytes))).collect()
+}
+
+/// The names of what differs.
+fn differing(found: &Left, expected: &Left) -> Vec<&'static str> {
+    let parts = [
+        ("number", found.number != expected.number),
+        ("count", found.count != expected.count),
+        ("taken", found.taken != expected.taken),
+        ("session", found.session != expected.session),
+        ("active bank", found.active != expected.active),
+        ("buffer bank", found.buffer != expected.buffer),
+        ("records", found.records != expected.records),
+        ("map or samples", found.inputs_kept != expected.inputs_kept),
+    ];
+    parts.into_iter().filter(|(_, other)| *other).map(|(name, _)| name).collect()
+}

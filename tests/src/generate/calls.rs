@@ -1,0 +1,208 @@
+//! What the reader's calls are given: lists of calls from a seed, and all that
+//! can be wrong with one of them.
+
+use super::maps::{self, good_map, Damage};
+use super::random::Random;
+use super::sessions::sound_session;
+use super::traces::{clocks, noise, trace};
+use crate::calls::{Call, Given};
+use crate::layout::{from_bytes, to_bytes, SESSION_SIZE};
+use crate::second::reader::RECORD;
+
+/// The most samples that a call takes.
+pub const MOST_SAMPLES: usize = 65_536;
+
+/// What can be wrong with a call, a reason for each number from 1 on.
+#[derive(Clone, Copy, Debug, PartialEq, Eq)]
+pub enum Wrong {
+    Session,
+    MapForm,
+    MapEntry,
+    Banks,
+    Samples,
+    Room,
+}
+
+impl Wrong {
+    pub const ALL: [Wrong; 6] = [
+        Wrong::Session,
+        Wrong::MapForm,
+        Wrong::MapEntry,
+        Wrong::Banks,
+        Wrong::Samples,
+        Wrong::Room,
+    ];
+
+    pub fn number(self) -> u32 {
+        self as u32 + 1
+    }
+
+    /// Spoils calls that nothing refused so far, whatever else is spoilt after.
+    fn apply(self, random: &mut Random, given: &mut Given) {
+        match self {
+            Wrong::Session => spoil_session(random, given),
+            Wrong::MapForm => damage(random, 2).apply(random, &mut given.map),
+            Wrong::MapEntry => damage(random, 3).apply(random, &mut given.map),
+            Wrong::Banks => spoil_banks(random, given),
+            Wrong::Samples => spoil_samples(random, &mut given.samples),
+            Wrong::Room => unreachable!("the room depends on the call"),
+        }
+    }
+}
+
+/// Spoils a call in all of these ways. It has records, if its room is one.
+pub fn spoil(random: &mut Random, call: Call, given: &mut Given, wrongs: &[Wrong]) {
+    // The records are counted while all is good, and the length of a map is
+    // spoilt after its entries.
+    if wrongs.contains(&Wrong::Room) {
+        let short = room_too_short(random, given.records_due(call));
+        given.records = random.bytes(short);
+    }
+    for wrong in Wrong::ALL.into_iter().rev().filter(|&wrong| wrong != Wrong::Room) {
+        if wrongs.contains(&wrong) {
+            wrong.apply(random, given);
+        }
+    }
+}
+
+/// Less than so many records need: a byte less, nothing, or anything between.
+fn room_too_short(random: &mut Random, records: usize) -> usize {
+    let needed = RECORD * records;
+    assert!(needed > 0, "without records no room is too short");
+    match random.below(4) {
+        0 => 0,
+        1 => random.below(needed),
+        _ => needed - 1,
+    }
+}
+
+/// Changes bytes of a sound session until they are no sound session.
+fn spoil_session(random: &mut Random, given: &mut Given) {
+    let sound = given.session;
+    while from_bytes(&given.session).is_some_and(|session| session.is_sound()) {
+        given.session = sound;
+        for _ in 0..random.between(1, 2) {
+            let at = random.below(SESSION_SIZE);
+            given.session[at] = random.pick(&[0, 1, 2, 3, 0x10, 0x80, 0xFF, sound[at] ^ 1]);
+        }
+    }
+}
+
+fn damage(random: &mut Random, number: u8) -> Damage {
+    let fitting: Vec<Damage> =
+        Damage::ALL.into_iter().filter(|damage| damage.number() == number).collect();
+    random.pick(&fitting)
+}
+
+/// Gives one bank or both another length.
+fn spoil_banks(random: &mut Random, given: &mut Given) {
+    let which = random.between(1, 3);
+    for (i, bank) in [&mut given.active, &mut given.buffer].into_iter().enumerate() {
+        if which >> i & 1 == 1 {
+            let count = bank.len();
+            let length = random.pick(&[0, count - 1, count + 1, count - 1, count + 1, count + 200]);
+            bank.resize(length, random.byte());
+        }
+    }
+}
+
+/// Sets a spare bit of one sample, or adds samples until they are too many.
+fn spoil_samples(random: &mut Random, samples: &mut Vec<u8>) {
+    if random.one_in(40) {
+        return samples.resize(MOST_SAMPLES + 1, 0x01);
+    }
+    if samples.is_empty() {
+        samples.push(0x01);
+    }
+    let anywhere = random.below(samples.len());
+    let at = random.pick(&[0, anywhere, samples.len() - 1]);
+    samples[at] |= 1 << random.between(4, 7);
+}
+
+/// A list of calls on one map: each gets the session and the banks as the last
+/// one left them, and the samples that are next.
+pub struct Chain {
+    random: Random,
+    /// Session and banks as they now are.
+    pub given: Given,
+    trace: Vec<u8>,
+    at: usize,
+    /// The longest piece that a call gets.
+    longest: usize,
+}
+
+impl Chain {
+    pub fn new(seed: u64) -> Self {
+        let mut random = Random::new(seed);
+        let count = maps::count(&mut random);
+        let map = good_map(&mut random, count);
+        let length = match random.below(400) {
+            0 => MOST_SAMPLES,
+            1 => MOST_SAMPLES + 1,
+            2..=9 => random.between(2_000, 9_000),
+            _ => random.between(50, 1_200),
+        };
+        let trace = any_trace(&mut random, &map, length);
+        let longest = if length < 2_000 { random.pick(&[2, 40, 400]) } else { length };
+        let mut given = Given::opened(&map);
+        if random.coin() {
+            given.session = to_bytes(&sound_session(&mut random));
+            given.active = random.bytes(count);
+            given.buffer = random.bytes(count);
+        }
+        Chain { random, given, trace, at: 0, longest }
+    }
+
+    /// The next call with its samples and room, spoilt or not.
+    pub fn next_call(&mut self) -> (Call, Given) {
+        let random = &mut self.random;
+        let call = match random.below(16) {
+            0 => Call::Open,
+            1..=9 => Call::Read,
+            _ => Call::NextRecord,
+        };
+        let rest = &self.trace[self.at..];
+        let whole = self.longest > MOST_SAMPLES / 2 && random.coin();
+        let length = if whole { rest.len() } else { random.between(0, self.longest) };
+        let mut given = self.given.clone();
+        given.samples = rest[..length.min(rest.len())].to_vec();
+        let due = given.records_due(call);
+        let extra = random.pick(&[0, 0, 0, 1, 5, 6, 7, 100]);
+        given.records = random.bytes(RECORD * due + extra);
+        if call == Call::Open {
+            given.session = random.bytes(SESSION_SIZE).try_into().expect("a session's size");
+        }
+        let possible = |wrong: &Wrong| match wrong {
+            Wrong::Session => call != Call::Open,
+            Wrong::Room => due > 0,
+            _ => true,
+        };
+        let wrongs: Vec<Wrong> = any_wrongs(random).into_iter().filter(possible).collect();
+        spoil(random, call, &mut given, &wrongs);
+        (call, given)
+    }
+
+    /// Moves on by so many samples.
+    pub fn take(&mut self, samples: usize) {
+        self.at += samples;
+    }
+
+    pub fn is_over(&self) -> bool {
+        self.at == self.trace.len()
+    }
+}
+
+/// What a master sends, or a frame that goes on and on, or no sense at all.
+fn any_trace(random: &mut Random, map: &[u8], length: usize) -> Vec<u8> {
+    match random.below(8) {
+        0 => noise(random, length),
+        1 | 2 => clocks(random, length),
+        _ => trace(random, map, length, true),
+    }
+}
+
+/// Mostly nothing, else one to three of them.
+fn any_wrongs(random: &mut Random) -> Vec<Wrong> {
+    let many = random.pick(&[0, 0, 0, 0, 0, 0, 1, 1, 2, 3]);
+    (0..many).map(|_| random.pick(&Wrong::ALL)).collect()
+}

@@ -1,0 +1,88 @@
+//! Memory between two inaccessible pages. What is lent from it lies against one
+//! of them, so that a byte read or written beyond it kills the program.
+
+#![allow(unsafe_code)]
+
+use std::ffi::{c_int, c_void};
+
+/// The page size of x86-64 Linux, the library's only home.
+const PAGE: usize = 4_096;
+
+const PROT_NONE: c_int = 0;
+const PROT_READ_AND_WRITE: c_int = 1 | 2;
+const MAP_PRIVATE_ANONYMOUS: c_int = 0x02 | 0x20;
+
+extern "C" {
+    fn mmap(
+        at: *mut c_void,
+        length: usize,
+        access: c_int,
+        kind: c_int,
+        file: c_int,
+        offset: i64,
+    ) -> *mut c_void;
+    fn mprotect(at: *mut c_void, length: usize, access: c_int) -> c_int;
+    fn munmap(at: *mut c_void, length: usize) -> c_int;
+}
+
+/// The inaccessible page that the lent bytes lie against.
+#[derive(Clone, Copy, Debug, PartialEq, Eq)]
+pub enum Against {
+    /// They end where it starts.
+    PageAfter,
+    /// They start where it ends.
+    PageBefore,
+}
+
+pub struct Guarded {
+    /// The first byte after the page before.
+    start: *mut u8,
+    /// A whole number of pages.
+    capacity: usize,
+}
+
+impl Guarded {
+    /// Room for so many bytes at least.
+    pub fn new(least: usize) -> Self {
+        let capacity = least.max(1).next_multiple_of(PAGE);
+        // SAFETY: new memory, at an address of the system's choice.
+        let all = unsafe {
+            mmap(std::ptr::null_mut(), capacity + 2 * PAGE, PROT_NONE, MAP_PRIVATE_ANONYMOUS, -1, 0)
+        };
+        assert!(all as isize != -1, "no memory for {capacity} bytes");
+        // SAFETY: the first byte after the first page of that memory.
+        let start = unsafe { all.cast::<u8>().add(PAGE) };
+        // SAFETY: all of that memory but its first and its last page.
+        let opened = unsafe { mprotect(start.cast(), capacity, PROT_READ_AND_WRITE) };
+        assert_eq!(opened, 0, "memory that can't be made accessible");
+        Guarded { start, capacity }
+    }
+
+    /// These bytes, against a page.
+    pub fn hold(&mut self, bytes: &[u8], against: Against) -> &mut [u8] {
+        let length = bytes.len();
+        assert!(length <= self.capacity, "{length} bytes, and room for {}", self.capacity);
+        let offset = match against {
+            Against::PageAfter => self.capacity - length,
+            Against::PageBefore => 0,
+        };
+        // SAFETY: within the accessible pages, which are borrowed as long as the slice.
+        let held = unsafe { std::slice::from_raw_parts_mut(self.start.add(offset), length) };
+        held.copy_from_slice(bytes);
+        held
+    }
+
+    /// This number, against a page.
+    pub fn hold_number(&mut self, number: u64, against: Against) -> &mut u64 {
+        let bytes = self.hold(&number.to_ne_bytes(), against);
+        // SAFETY: eight bytes at the edge of a page, and so aligned.
+        unsafe { &mut *bytes.as_mut_ptr().cast::<u64>() }
+    }
+}
+
+impl Drop for Guarded {
+    fn drop(&mut self) {
+        // SAFETY: what `new` has got, once.
+        unsafe { munmap(self.start.sub(PAGE).cast(), self.capacity + 2 * PAGE) };
+    }
+}

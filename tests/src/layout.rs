@@ -1,0 +1,76 @@
+//! The session as a caller of the library holds it: twenty bytes, by the table
+//! of the header. This is the second implementation's side of it.
+
+use crate::second::session::{Phase, Session, CSB, SCLK};
+use crate::second::settings::Settings;
+
+pub const SESSION_SIZE: usize = 20;
+
+pub type SessionBytes = [u8; SESSION_SIZE];
+
+/// The version of the layout, its first byte.
+const VERSION: u8 = 1;
+/// Where the settings start, and after them the settings in use.
+const SETTINGS_AT: usize = 10;
+const IN_USE_AT: usize = 16;
+
+/// The bytes that are 0 or 1: CSB, SCLK, the direction, and every setting.
+pub const FLAGS: [usize; 13] = [1, 2, 9, 10, 11, 12, 13, 14, 15, 16, 17, 18, 19];
+/// The byte that is 0 to 2.
+pub const PHASE_AT: usize = 3;
+
+const PHASES: [Phase; 3] = [Phase::Rest, Phase::Instruction, Phase::Data];
+
+/// The settings in their order; the first four are also the settings in use.
+const SETTINGS: [Settings; 6] = [
+    Settings::LSB_FIRST,
+    Settings::ASCENDING,
+    Settings::SDO_ACTIVE,
+    Settings::SINGLE_INSTRUCTION,
+    Settings::BUFFER_READBACK,
+    Settings::SLOW,
+];
+
+/// The bytes of a session whose fields hold what they are meant for.
+pub fn to_bytes(session: &Session) -> SessionBytes {
+    let mut bytes = [0; SESSION_SIZE];
+    bytes[0] = VERSION;
+    bytes[1] = u8::from(session.levels & CSB != 0);
+    bytes[2] = u8::from(session.levels & SCLK != 0);
+    bytes[PHASE_AT] = session.phase as u8;
+    bytes[4] = session.bits;
+    bytes[5..7].copy_from_slice(&session.value.to_be_bytes());
+    bytes[7..9].copy_from_slice(&session.address.to_be_bytes());
+    bytes[9] = u8::from(session.read);
+    for (i, one) in SETTINGS.into_iter().enumerate() {
+        bytes[SETTINGS_AT + i] = u8::from(session.settings.has(one));
+        if i < 4 {
+            bytes[IN_USE_AT + i] = u8::from(session.in_use.has(one));
+        }
+    }
+    bytes
+}
+
+/// The session of these bytes, sound or not, if they are those of a session.
+pub fn from_bytes(bytes: &SessionBytes) -> Option<Session> {
+    let phase = *PHASES.get(usize::from(bytes[PHASE_AT]))?;
+    if bytes[0] != VERSION || FLAGS.into_iter().any(|at| bytes[at] > 1) {
+        return None;
+    }
+    let levels = if bytes[1] == 1 { CSB } else { 0 } | if bytes[2] == 1 { SCLK } else { 0 };
+    Some(Session {
+        levels,
+        phase,
+        bits: bytes[4],
+        value: u16::from_be_bytes([bytes[5], bytes[6]]),
+        address: u16::from_be_bytes([bytes[7], bytes[8]]),
+        read: bytes[9] == 1,
+        settings: settings_of(&bytes[SETTINGS_AT..IN_USE_AT]),
+        in_use: settings_of(&bytes[IN_USE_AT..]),
+    })
+}
+
+fn settings_of(flags: &[u8]) -> Settings {
+    let set = SETTINGS.into_iter().zip(flags).filter(|(_, &flag)| flag == 1);
+    set.fold(Settings::NONE, |sum, (one, _)| sum.with(one))
+}

@@ -1,0 +1,188 @@
+//! The reader's calls of the library against the second implementation: number,
+//! counts, session, both banks and the whole record buffer, call by call.
+
+use couplingnut_tests::calls::{Call, Comparison, Given};
+use couplingnut_tests::environment::number_from;
+use couplingnut_tests::generate::calls::{Chain, MOST_SAMPLES};
+use couplingnut_tests::generate::maps::{good_map, simple_map};
+use couplingnut_tests::generate::random::Random;
+use couplingnut_tests::generate::sessions::{every_piece, with_every_setting};
+use couplingnut_tests::generate::traces::{clocks, trace};
+use couplingnut_tests::guarded::Against;
+use couplingnut_tests::layout::to_bytes;
+use couplingnut_tests::second::reader::RECORD;
+use couplingnut_tests::second::session::{Phase, Session};
+
+/// The calls of a gate run, in lists.
+const CALLS: u64 = 500_000;
+/// The calls of one list, at most.
+const CHAIN: usize = 40;
+
+/// The page that this case's memory lies against: mostly the one after it.
+fn against(seed: u64) -> Against {
+    match seed % 4 {
+        0 => Against::PageBefore,
+        _ => Against::PageAfter,
+    }
+}
+
+#[test]
+fn lists_of_calls_agree() {
+    let (first, calls) = (number_from("SEED", 0), number_from("CALLS", CALLS));
+    assert!(calls > 0, "no call is no test");
+    let mut comparison = Comparison::new("calls::lists_of_calls_agree");
+    for seed in first.. {
+        if comparison.tally.calls >= calls {
+            break;
+        }
+        comparison.begin(seed, against(seed));
+        compare_chain(&mut comparison, Chain::new(seed));
+    }
+    if calls >= CALLS {
+        let tally = &comparison.tally;
+        tally.assert_numbers(Call::Open, &[0, 2, 3, 4], 300);
+        tally.assert_numbers(Call::Read, &[0, 1, 2, 3, 4, 5, 6], 1_000);
+        tally.assert_numbers(Call::NextRecord, &[0, 1, 2, 3, 4, 5, 6], 1_000);
+        tally.assert_records(200);
+    }
+}
+
+fn compare_chain(comparison: &mut Comparison, mut chain: Chain) {
+    for _ in 0..CHAIN {
+        if chain.is_over() {
+            break;
+        }
+        let (call, given) = chain.next_call();
+        let left = comparison.call(call, &given);
+        // A refused call left the session and the banks that it was given.
+        if left.number == 0 {
+            chain.given.go_on(&left);
+            chain.take(match call {
+                Call::Open => 0,
+                Call::Read => given.samples.len(),
+                Call::NextRecord => left.taken as usize,
+            });
+        }
+    }
+}
+
+/// Every phase, number of bits, direction, setting, setting in use and level of
+/// SCLK, read on for a byte or two.
+#[test]
+fn sessions_in_every_phase_and_setting_are_read_on() {
+    let mut comparison = Comparison::new("calls::sessions_in_every_phase_and_setting_are_read_on");
+    let mut random = Random::new(1);
+    let map = good_map(&mut random, 24);
+    let sessions = every_piece().into_iter().flat_map(with_every_setting);
+    for (seed, shape) in (0..).zip(sessions) {
+        comparison.begin(seed, against(seed));
+        let mut random = Random::new(seed);
+        let session = with_contents(&mut random, shape);
+        let mut given = Given::opened(&map);
+        given.session = to_bytes(&session);
+        given.active = random.bytes(24);
+        given.buffer = random.bytes(24);
+        given.samples = clocks(&mut random, 50);
+        given.records = random.bytes(RECORD * 17);
+        assert!(session.is_sound(), "{session:?}");
+        for call in Call::READING {
+            assert_eq!(comparison.call(call, &given).number, 0, "{session:?}");
+        }
+    }
+    let (at_rest, in_a_piece) = (64 * 2, (16 + 8 + 8) * 64 * 16 * 2);
+    assert_eq!(comparison.tally.calls, 2 * (at_rest + in_a_piece));
+    comparison.tally.assert_records(100);
+}
+
+/// The session with any value of its bits and, in data, any address, mostly one
+/// of a register.
+fn with_contents(random: &mut Random, session: Session) -> Session {
+    let value = random.below(1 << session.bits) as u16;
+    let address = match session.phase {
+        Phase::Data if random.one_in(8) => random.pick(&[0x7FFF, 0x7FFE, 0x4000, 0x0017, 0x0018]),
+        Phase::Data => random.below(26) as u16,
+        _ => 0,
+    };
+    Session { value, address, ..session }
+}
+
+/// 65,536 samples, with as many records as they can have, and one more.
+#[test]
+fn the_most_samples_are_read_and_one_more_is_refused() {
+    let mut comparison =
+        Comparison::new("calls::the_most_samples_are_read_and_one_more_is_refused");
+    let mut random = Random::new(2);
+    let map = good_map(&mut random, 600);
+    // A cut every three samples, from a session that has a bit already.
+    let cuts: Vec<u8> = [0x01, 0x00, 0x02].into_iter().cycle().take(MOST_SAMPLES + 1).collect();
+    let traffic = trace(&mut random, &map, MOST_SAMPLES + 1, true);
+    for (seed, samples) in (0..).zip([cuts, traffic]) {
+        let mut given = Given::opened(&map);
+        given.session = to_bytes(&Session { levels: 0, bits: 1, ..in_instruction() });
+        given.samples = samples;
+        given.records = random.bytes(RECORD * 22_000);
+        for page in [Against::PageAfter, Against::PageBefore] {
+            comparison.begin(seed, page);
+            compare_longest(&mut comparison, given.clone());
+        }
+    }
+    assert_eq!(comparison.tally.numbers[Call::Read as usize], [8, 0, 0, 0, 0, 8, 4]);
+}
+
+fn in_instruction() -> Session {
+    Session { phase: Phase::Instruction, ..Session::opened() }
+}
+
+/// One sample too many; then as many as there may be, with room to spare, the
+/// exact room, and a byte less.
+fn compare_longest(comparison: &mut Comparison, mut given: Given) {
+    for call in Call::READING {
+        assert_eq!(comparison.call(call, &given).number, 5);
+    }
+    given.samples.truncate(MOST_SAMPLES);
+    for call in Call::READING {
+        let left = comparison.call(call, &given);
+        assert_eq!(left.number, 0);
+        let exact = RECORD * left.count as usize;
+        let mut exactly = given.clone();
+        exactly.records.truncate(exact);
+        assert_eq!(comparison.call(call, &exactly).number, 0);
+        exactly.records.truncate(exact - 1);
+        assert_eq!(comparison.call(call, &exactly).number, 6);
+    }
+    *given.samples.last_mut().expect("there are samples") |= 0x40;
+    for call in Call::READING {
+        assert_eq!(comparison.call(call, &given).number, 5);
+    }
+}
+
+/// The known case of document 01, written out: the calls of the library and
+/// nothing else.
+#[test]
+fn the_printed_case_call_by_call() {
+    let mut comparison = Comparison::new("calls::the_printed_case_call_by_call");
+    comparison.begin(0, Against::PageAfter);
+    let mut given = Given::opened(&simple_map(16));
+    given.session = [0xEE; 20];
+    given.active = vec![0xAA; 16];
+    let opened = comparison.call(Call::Open, &given);
+    assert_eq!((opened.number, opened.active[0x000A]), (0, 0x00));
+    given.go_on(&opened);
+    given.samples = write_of_3c();
+    given.records = vec![0xEE; 8];
+    let read = comparison.call(Call::Read, &given);
+    assert_eq!((read.number, read.count), (0, 1));
+    assert_eq!(read.records, [0x01, 0x00, 0x0A, 0x3C, 0x3C, 0x01, 0xEE, 0xEE]);
+    assert_eq!((read.active[0x000A], read.buffer[0x000A]), (0x3C, 0x00));
+    assert_eq!(read.session, opened.session);
+    // Byte 1 is whole once 33 + 16 samples have been sent.
+    let next = comparison.call(Call::NextRecord, &given);
+    assert_eq!((next.number, next.count, next.taken), (0, 1, 49));
+}
+
+/// The 51 samples of a streaming write of 0x3C to 0x000A.
+fn write_of_3c() -> Vec<u8> {
+    let bits = "0000 0000 0000 1010 0011 1100".chars().filter(|&c| c != ' ');
+    let clocked = bits.flat_map(|bit| if bit == '1' { [4, 6] } else { [0, 2] });
+    [0].into_iter().chain(clocked).chain([0, 1]).collect()
+}

@@ -1,0 +1,66 @@
+//! The bytes of a session: the header's table, by hand and by the library.
+
+use couplingnut_tests::calls::{Call, Comparison, Given};
+use couplingnut_tests::generate::maps::simple_map;
+use couplingnut_tests::generate::random::Random;
+use couplingnut_tests::generate::sessions::{every_piece, sound_session, with_every_setting};
+use couplingnut_tests::guarded::Against;
+use couplingnut_tests::layout::{from_bytes, to_bytes, SessionBytes};
+
+#[test]
+fn every_session_goes_to_bytes_and_back() {
+    for session in every_piece().into_iter().flat_map(with_every_setting) {
+        assert_eq!(from_bytes(&to_bytes(&session)), Some(session));
+    }
+    let mut random = Random::new(20);
+    for _ in 0..20_000 {
+        let session = sound_session(&mut random);
+        assert_eq!(from_bytes(&to_bytes(&session)), Some(session));
+    }
+}
+
+/// "For each bit b, 4b then 4b + 2", on the line of this level.
+fn clocked(bits: &str, line: u8) -> Vec<u8> {
+    let level = |bit| if bit == '1' { line } else { 0 };
+    bits.chars().filter(|&c| c != ' ').flat_map(|bit| [level(bit), level(bit) + 2]).collect()
+}
+
+/// Every field by its place: the library reads on and the bytes are those that
+/// the table asks for, written out.
+#[test]
+fn every_field_has_its_place() {
+    const SDIO: u8 = 4;
+    const SDO: u8 = 8;
+    let mut comparison = Comparison::new("layout::every_field_has_its_place");
+    let mut given = Given::opened(&simple_map(16));
+    let mut leaves = |samples: &[u8], expected: SessionBytes| {
+        given.samples = samples.to_vec();
+        given.records = vec![0xEE; 60];
+        comparison.begin(0, Against::PageAfter);
+        let left = comparison.call(Call::Read, &given);
+        assert_eq!((left.number, left.session), (0, expected));
+        given.go_on(&left);
+    };
+    leaves(&[], [1, 1, 0, 0, 0, 0, 0, 0, 0, 0, 0, 0, 0, 0, 0, 0, 0, 0, 0, 0]);
+    leaves(&[0x03], [1, 1, 1, 0, 0, 0, 0, 0, 0, 0, 0, 0, 0, 0, 0, 0, 0, 0, 0, 0]);
+    // 0x42 to 0x0000: LSB first, in use from the next instruction on.
+    let frame = [&[0][..], &clocked("0000 0000 0000 0000 0100 0010", SDIO), &[1]].concat();
+    leaves(&frame, [1, 1, 0, 0, 0, 0, 0, 0, 0, 0, 1, 0, 0, 0, 0, 0, 0, 0, 0, 0]);
+    leaves(&[0x00], [1, 0, 0, 1, 0, 0, 0, 0, 0, 0, 1, 0, 0, 0, 0, 0, 1, 0, 0, 0]);
+    // 0x24 and then 0x18, lowest bit first, each alone.
+    let frame = [&clocked("0000 0000 0000 0000 0010 0100", SDIO)[..], &[1, 0]].concat();
+    leaves(&frame, [1, 0, 0, 1, 0, 0, 0, 0, 0, 0, 0, 1, 0, 0, 0, 0, 0, 1, 0, 0]);
+    let frame = [&clocked("0000 0000 0000 0000 0001 1000", SDIO)[..], &[1, 0]].concat();
+    leaves(&frame, [1, 0, 0, 1, 0, 0, 0, 0, 0, 0, 0, 0, 1, 0, 0, 0, 0, 0, 1, 0]);
+    // 0xB0 to 0x0001: the other three.
+    let frame = [&clocked("0000 0000 0000 0001 1011 0000", SDIO)[..], &[1]].concat();
+    leaves(&frame, [1, 1, 0, 0, 0, 0, 0, 0, 0, 0, 0, 0, 1, 1, 1, 1, 0, 0, 0, 0]);
+    leaves(&[0x00], [1, 0, 0, 1, 0, 0, 0, 0, 0, 0, 0, 0, 1, 1, 1, 1, 0, 0, 1, 1]);
+    // A read of 0x4A53, bit by bit; then two bits on SDO.
+    let bits = clocked("1100 1010 0101 00", SDIO);
+    leaves(&bits, [1, 0, 1, 1, 14, 0x32, 0x94, 0, 0, 0, 0, 0, 1, 1, 1, 1, 0, 0, 1, 1]);
+    let bits = clocked("11", SDIO);
+    leaves(&bits, [1, 0, 1, 2, 0, 0, 0, 0x4A, 0x53, 1, 0, 0, 1, 1, 1, 1, 0, 0, 1, 1]);
+    let bits = [&clocked("10", SDO)[..], &[0]].concat();
+    leaves(&bits, [1, 0, 0, 2, 2, 0, 2, 0x4A, 0x53, 1, 0, 0, 1, 1, 1, 1, 0, 0, 1, 1]);
+}

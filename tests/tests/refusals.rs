@@ -1,0 +1,153 @@
+//! What the library refuses: every number with its order, each way a session can
+//! be unsound, banks and room of every length.
+
+use couplingnut_tests::calls::{Call, Comparison, Given};
+use couplingnut_tests::generate::calls::{spoil, Wrong};
+use couplingnut_tests::generate::maps::{good_map, simple_map};
+use couplingnut_tests::generate::random::Random;
+use couplingnut_tests::generate::sessions::{every_piece, unsound_sessions};
+use couplingnut_tests::generate::traces::trace;
+use couplingnut_tests::guarded::Against;
+use couplingnut_tests::layout::{to_bytes, SessionBytes, FLAGS, PHASE_AT, SESSION_SIZE};
+use couplingnut_tests::second::reader::{most_records, RECORD};
+
+/// Calls that nothing refuses, with records, and then every set of reasons.
+#[test]
+fn the_lowest_number_that_applies_is_given() {
+    let mut comparison = Comparison::new("refusals::the_lowest_number_that_applies_is_given");
+    for seed in 0..64 * 300 {
+        let mut random = Random::new(seed);
+        comparison.begin(seed, Against::PageAfter);
+        let wrongs: Vec<Wrong> =
+            Wrong::ALL.into_iter().filter(|wrong| seed >> (wrong.number() - 1) & 1 == 1).collect();
+        let lowest = wrongs.first().map_or(0, |wrong| wrong.number());
+        for call in Call::READING {
+            let mut given = good_call(&mut random);
+            spoil(&mut random, call, &mut given, &wrongs);
+            assert_eq!(comparison.call(call, &given).number, lowest, "{wrongs:?}");
+        }
+        let of_opening = [Wrong::MapForm, Wrong::MapEntry, Wrong::Banks];
+        let lowest = wrongs.iter().find(|wrong| of_opening.contains(wrong));
+        let mut given = good_call(&mut random);
+        spoil(&mut random, Call::Read, &mut given, &wrongs);
+        let left = comparison.call(Call::Open, &given);
+        assert_eq!(left.number, lowest.map_or(0, |wrong| wrong.number()), "{wrongs:?}");
+        assert_eq!(left.session, OPENED);
+    }
+}
+
+/// At rest, last SCLK low, all settings clear.
+const OPENED: SessionBytes = [1, 1, 0, 0, 0, 0, 0, 0, 0, 0, 0, 0, 0, 0, 0, 0, 0, 0, 0, 0];
+
+/// A call that is done and has a record.
+fn good_call(random: &mut Random) -> Given {
+    let count = random.between(16, 40);
+    let mut given = Given::opened(&good_map(random, count));
+    given.active = random.bytes(count);
+    given.buffer = random.bytes(count);
+    // A bit of an instruction, and the cut; then anything.
+    given.samples = vec![0x00, 0x02, 0x01];
+    let length = random.between(0, 200);
+    given.samples.extend(trace(random, &given.map, length, true));
+    given.records = random.bytes(RECORD * most_records(given.samples.len()));
+    given
+}
+
+/// Every byte of a session takes every value, alone, from sessions in every
+/// piece; flags, phases and versions that there are not make no session.
+#[test]
+fn every_byte_of_a_session_is_looked_at() {
+    let mut comparison = Comparison::new("refusals::every_byte_of_a_session_is_looked_at");
+    let map = simple_map(16);
+    for (seed, piece) in (0..).zip(every_piece()) {
+        comparison.begin(seed, Against::PageAfter);
+        let mut given = Given::opened(&map);
+        given.samples = vec![0x00, 0x02, 0x03];
+        given.records = vec![0xEE; 2 * RECORD];
+        let sound = to_bytes(&piece);
+        for at in 0..SESSION_SIZE {
+            for value in 0..=255 {
+                given.session = sound;
+                given.session[at] = value;
+                let no_session = at == 0 && value != 1
+                    || at == PHASE_AT && value > 2
+                    || FLAGS.contains(&at) && value > 1;
+                for call in Call::READING {
+                    let left = comparison.call(call, &given);
+                    assert!(left.number == 1 || !no_session, "byte {at} is {value}");
+                    assert!(left.number <= 1, "nothing else is wrong");
+                }
+            }
+        }
+    }
+    comparison.tally.assert_numbers(Call::Read, &[0, 1], 1_000);
+}
+
+#[test]
+fn every_unsound_session_is_refused_with_1() {
+    let mut comparison = Comparison::new("refusals::every_unsound_session_is_refused_with_1");
+    for (seed, session) in (0..).zip(unsound_sessions()) {
+        comparison.begin(seed, Against::PageAfter);
+        let given = Given { session: to_bytes(&session), ..Given::opened(&simple_map(16)) };
+        for call in Call::READING {
+            assert_eq!(comparison.call(call, &given).number, 1, "{session:?}");
+        }
+    }
+}
+
+/// Both banks of every length up to a few more than n, and of lengths that a
+/// narrow type would take for n.
+#[test]
+fn both_banks_have_to_fit() {
+    let mut comparison = Comparison::new("refusals::both_banks_have_to_fit");
+    let mut random = Random::new(4);
+    let lengths = || (0..=20).chain([17 + 256, 17 + 8_192]);
+    for active in lengths() {
+        for buffer in lengths() {
+            comparison.begin(active as u64, Against::PageAfter);
+            let mut given = Given::opened(&simple_map(17));
+            given.active = random.bytes(active);
+            given.buffer = random.bytes(buffer);
+            let expected = if active == 17 && buffer == 17 { 0 } else { 4 };
+            for call in [Call::Open, Call::Read, Call::NextRecord] {
+                assert_eq!(comparison.call(call, &given).number, expected, "{active}, {buffer}");
+            }
+        }
+    }
+}
+
+#[test]
+fn every_spare_bit_of_every_sample_is_looked_at() {
+    let mut comparison = Comparison::new("refusals::every_spare_bit_of_every_sample_is_looked_at");
+    let good = vec![0x0F; 100];
+    for at in 0..good.len() {
+        for bit in 4..8 {
+            comparison.begin(at as u64, Against::PageAfter);
+            let mut given = Given::opened(&simple_map(16));
+            given.samples.clone_from(&good);
+            given.samples[at] |= 1 << bit;
+            for call in Call::READING {
+                assert_eq!(comparison.call(call, &given).number, 5);
+            }
+        }
+    }
+}
+
+/// Every room from none to more than enough, filled with noise.
+#[test]
+fn the_room_that_is_needed_is_exact() {
+    let mut comparison = Comparison::new("refusals::the_room_that_is_needed_is_exact");
+    for seed in 0..1_500 {
+        comparison.begin(seed, Against::PageAfter);
+        let mut random = Random::new(seed);
+        let mut given = good_call(&mut random);
+        for call in Call::READING {
+            let needed = RECORD * given.records_due(call);
+            for room in [0, 1, RECORD, needed - 1, needed, needed + 1, needed + 50] {
+                given.records = random.bytes(room);
+                let expected = if room < needed { 6 } else { 0 };
+                assert_eq!(comparison.call(call, &given).number, expected, "{room} of {needed}");
+            }
+        }
+    }
+}
