@@ -58,7 +58,7 @@ extern "C" {
 /* The numbers that calls give back: done, or why not. couplingnut_message has words for each. */
 enum couplingnut_number {
     COUPLINGNUT_DONE = 0,
-    COUPLINGNUT_BAD_SESSION = 1,        /* the session's bytes are none, or no session of this library */
+    COUPLINGNUT_BAD_SESSION = 1,        /* the bytes are no session, or one that no samples could go on from */
     COUPLINGNUT_BAD_MAP_FORM = 2,       /* the map's length, version or n is wrong, or it has fewer than 5 bytes */
     COUPLINGNUT_BAD_MAP_ENTRY = 3,      /* a register of the map breaks a rule */
     COUPLINGNUT_BAD_BANK = 4,           /* a bank isn't n bytes */
