@@ -1,9 +1,9 @@
 /*
  * Couplingnut for C and C++: a reader and a sender for the serial control interface (ADI-SPI) of a chip.
  *
- * The reader takes sampled levels of the four lines and the map of the chip's registers, and tells what passed: a record for each
- * byte written or read and for each transfer broken off, and what every register then holds. The sender makes the samples of one
- * read or write run.
+ * The reader takes sampled levels of the four lines and the map of the chip's registers, and tells what passed: a record for
+ * each byte written or read and for each piece broken off, and what every register then holds. The sender makes the samples of
+ * one read or write run.
  *
  * The library is libcouplingnut.a (`rt staticlib couplingnut`), for x86-64 Linux. Its code is proved: for every input each call
  * ends, answers as written here, and touches no memory but what it was lent. It keeps nothing between calls, so any thread may
@@ -12,18 +12,19 @@
  * How a recording is read:
  *
  *     couplingnut_session session;
- *     uint8_t active[16], buffer[16];                      (a byte for each register of the map)
+ *     uint8_t active[16], buffer[16];    (a byte for each register of the map)
  *     uint8_t records[COUPLINGNUT_RECORDS_SIZE(4096)];
  *     uint64_t count;
  *
  *     couplingnut_open(map, map_length, &session, active, 16, buffer, 16);
  *     for each piece of at most 4,096 samples:
- *         couplingnut_read(map, map_length, &session, active, 16, buffer, 16, piece, piece_length, records, sizeof records, &count);
+ *         couplingnut_read(map, map_length, &session, active, 16, buffer, 16, piece, piece_length,
+ *                          records, sizeof records, &count);
  *         (`count` records of 6 bytes stand at the start of `records`)
  *
- * THE MAP is bytes that say what registers the chip has: 2 bytes, how many bytes follow them; 1 byte, the version, 1; 2 bytes, the
- * number n of registers, 16 to 8,192; then for each register, from address 0 on, 3 bytes: kind (0 blank, 1 read-only, 2 plain,
- * 3 buffered, 4 control), mask of the bits that can be written, default. Numbers of 2 bytes have the high byte first.
+ * THE MAP is bytes that say what registers the chip has: 2 bytes, how many bytes follow them; 1 byte, the version, 1; 2 bytes,
+ * the number n of registers, 16 to 8,192; then for each register, from address 0 on, 3 bytes: kind (0 blank, 1 read-only,
+ * 2 plain, 3 buffered, 4 control), mask of the bits that can be written, default. Numbers of 2 bytes have the high byte first.
  *
  * THE BANKS are two pieces of memory of n bytes each that the caller keeps. `active` holds what is in force, `buffer` what was
  * written to buffered registers and waits for a transfer. Between the calls on one recording nobody else writes them.
@@ -58,7 +59,7 @@ extern "C" {
 /* The numbers that calls give back: done, or why not. couplingnut_message has words for each. */
 enum couplingnut_number {
     COUPLINGNUT_DONE = 0,
-    COUPLINGNUT_BAD_SESSION = 1,        /* the session's bytes are none, or no session of this library */
+    COUPLINGNUT_BAD_SESSION = 1,        /* the bytes are no session, or one that no samples could go on from */
     COUPLINGNUT_BAD_MAP_FORM = 2,       /* the map's length, version or n is wrong, or it has fewer than 5 bytes */
     COUPLINGNUT_BAD_MAP_ENTRY = 3,      /* a register of the map breaks a rule */
     COUPLINGNUT_BAD_BANK = 4,           /* a bank isn't n bytes */
@@ -152,9 +153,7 @@ uint32_t couplingnut_next_record(const uint8_t *map, size_t map_length, coupling
                                  size_t samples_length, uint8_t *records, size_t records_length, uint64_t *count,
                                  uint64_t *taken);
 
-/*
- * Puts the samples of an order at the start of out, and their count in *samples: 0, or 7 to 11. The rest of out is unchanged.
- */
+/* Puts the samples of an order at the start of out, their count in *samples: 0, or 7 to 11. The rest of out is unchanged. */
 COUPLINGNUT_NOT_NULL
 uint32_t couplingnut_send(uint64_t direction, uint64_t settings, uint64_t start, uint64_t count, const uint8_t *data,
                           size_t data_length, uint8_t *out, size_t out_length, uint64_t *samples);
