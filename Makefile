@@ -5,11 +5,14 @@
 run: build
 	@{ cat examples/scratch.map; target/host/bussend write 0x000A 0x3C; } | target/bin/busread
 
-# Proves what the programs are made of, unless that is done, and builds them.
+# Proves what the programs are made of, unless that is done, and builds them. It says which crates it has proved, on standard error;
+# target/build.log has the rest.
 build:
 	@mkdir -p target/host
-	@rt check busread host >target/build.log 2>&1 || { cat target/build.log; exit 1; }
-	@rt staticlib host >target/build.log 2>&1 || { cat target/build.log; exit 1; }
+	@: >target/build.log
+	@[ -f target/bin/busread ] || echo "proving the programs' crates, one line each; this takes some minutes .." >&2
+	@.ci/told rt check busread host
+	@.ci/told rt staticlib host
 	@gcc -std=c11 -O2 -Wall -Wextra -Werror -o target/host/bussend host/bussend.c target/staticlib/libhost.a
 
 test:
@@ -17,7 +20,7 @@ test:
 
 # Times the proved side against the second implementation, and draws docs/performance.svg (docs/PERFORMANCE.md).
 bench: build
-	@rt staticlib benchmark >target/build.log 2>&1 || { cat target/build.log; exit 1; }
+	@.ci/told rt staticlib benchmark
 	@cargo build --release --quiet --offline -p couplingnut-benchmark
 	@cargo run --release --quiet --offline -p couplingnut-benchmark -- measure
 
