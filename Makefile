@@ -11,9 +11,9 @@ build:
 	@mkdir -p target/host
 	@: >target/build.log
 	@[ -f target/bin/busread ] || echo "proving the programs' crates, one line each; this takes some minutes .." >&2
-	@.ci/told rt check busread host
-	@.ci/told rt staticlib host
-	@gcc -std=c11 -O2 -Wall -Wextra -Werror -o target/host/bussend host/bussend.c target/staticlib/libhost.a
+	@.ci/told rt check busread couplingnut
+	@.ci/told rt staticlib couplingnut
+	@gcc -std=c11 -O2 -Wall -Wextra -Werror -o target/host/bussend host/bussend.c target/staticlib/libcouplingnut.a
 
 test:
 	@.ci/run

@@ -1,9 +1,9 @@
 /*
  * Couplingnut for C and C++: the test of a register map, and the sender, which makes the samples of one read or write run.
  *
- * The library is libhost.a (`rt staticlib host`), for x86-64 Linux. Its code is proved: for every input each call ends, answers
- * as document 01 says, and touches no memory but what it was lent. It keeps nothing between calls, so any thread may call it
- * at any time.
+ * The library is libcouplingnut.a (`rt staticlib couplingnut`), for x86-64 Linux. Its code is proved: for every input each call
+ * ends, answers as document 01 says, and touches no memory but what it was lent. It keeps nothing between calls, so any thread
+ * may call it at any time.
  *
  * Each call gives back a number, the lowest that applies:
  *

@@ -1,4 +1,4 @@
-//! The calls of `libhost.a`, as C makes them.
+//! The calls of `libcouplingnut.a`, as C makes them.
 
 #![allow(unsafe_code)]
 
@@ -8,7 +8,7 @@ pub use calls::{map_test, send};
 mod calls {
     use crate::second::sender::Order;
 
-    #[link(name = "host", kind = "static")]
+    #[link(name = "couplingnut", kind = "static")]
     extern "C" {
         fn couplingnut_map_test(map: *const u8, map_length: usize) -> u32;
         fn couplingnut_send(
@@ -66,6 +66,6 @@ mod calls {
     }
 
     fn missing() -> ! {
-        panic!("libhost.a is missing; build it first: rt staticlib host (HOST_LIB_DIR says where)")
+        panic!("libcouplingnut.a is missing; build it first: rt staticlib couplingnut (HOST_LIB_DIR says where)")
     }
 }

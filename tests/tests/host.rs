@@ -1,5 +1,5 @@
 //! The library for the bench host against the second implementation: the map
-//! test and the sender, through the names that `libhost.a` exports to C.
+//! test and the sender, through the names that `libcouplingnut.a` exports to C.
 
 use couplingnut_tests::generate::maps::{count, good_map, simple_map, Damage};
 use couplingnut_tests::generate::random::Random;
