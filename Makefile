@@ -1,6 +1,7 @@
 # Two commands do everything: `make run` builds the programs and reads an example, `make test` is the gate.
-# Beyond them: `make` builds programs and libraries, `make install` and `make uninstall` take PREFIX and DESTDIR.
-.PHONY: all run build library install uninstall test bench clean
+# Beyond them: `make` builds programs and libraries, `make install` and `make uninstall` take PREFIX and DESTDIR, `make dist` packs it
+# all for a PC without the toolchain.
+.PHONY: all run build library install uninstall dist test bench clean
 
 VERSION := $(shell cat VERSION)
 PREFIX = /usr/local
@@ -60,6 +61,10 @@ install: library
 uninstall:
 	@rm -f $(INSTALLED:%=$(TO)/%)
 	@-rmdir $(TO)/share/couplingnut 2>/dev/null || true
+
+# An archive and a .deb in target/dist.
+dist:
+	@host/dist
 
 test:
 	@.ci/run
