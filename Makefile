@@ -40,8 +40,9 @@ library: build
 
 # What is installed, under PREFIX. PCPREFIX is the prefix that pkg-config gives.
 INSTALLED = bin/busread bin/bussend bin/mkmap include/couplingnut.h lib/libcouplingnut.a lib/$(SHARED) lib/$(SONAME) \
-	lib/libcouplingnut.so lib/pkgconfig/couplingnut.pc share/couplingnut/VERSION $(MAN:%=share/man/%)
+	lib/libcouplingnut.so lib/pkgconfig/couplingnut.pc $(PYTHON)/couplingnut.py share/couplingnut/VERSION $(MAN:%=share/man/%)
 MAN = man1/busread.1 man1/bussend.1 man1/mkmap.1 man3/couplingnut.3
+PYTHON = lib/python3/dist-packages
 PCPREFIX = $(PREFIX)
 # The program that ends with a status, where it is there.
 BUSREAD = $(if $(wildcard host/busread.c),target/host/busread,target/bin/busread)
@@ -55,10 +56,12 @@ install: library
 	@ln -sf $(SONAME) $(TO)/lib/libcouplingnut.so
 	@sed -e 's|@PREFIX@|$(PCPREFIX)|' -e 's|@VERSION@|$(VERSION)|' host/couplingnut.pc.in >target/lib/couplingnut.pc
 	@install -m 644 target/lib/couplingnut.pc $(TO)/lib/pkgconfig
+	@install -m 644 python/couplingnut.py $(TO)/$(PYTHON)
 	@install -m 644 VERSION $(TO)/share/couplingnut
 	@for page in $(MAN); do install -m 644 "man/$${page#*/}" "$(TO)/share/man/$$page"; done
 
 uninstall:
+	@rm -rf $(TO)/$(PYTHON)/__pycache__/couplingnut.*
 	@rm -f $(INSTALLED:%=$(TO)/%)
 	@-rmdir $(TO)/share/couplingnut 2>/dev/null || true
 
