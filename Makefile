@@ -13,6 +13,9 @@ all: library
 run: build
 	@{ cat examples/scratch.map; target/host/bussend write 0x000A 0x3C; } | target/bin/busread
 
+# Builds a proved crate's library for C, unless that was done since the crate was last proved: it proves the crate once more.
+staticlib = [ target/staticlib/lib$(1).a -nt target/stamp/$(1) ] || .ci/told rt staticlib $(1)
+
 # Proves what the programs are made of, unless that is done, and builds them. It says which crates it has proved, on standard error;
 # target/build.log has the rest.
 build:
@@ -20,7 +23,7 @@ build:
 	@: >target/build.log
 	@[ -f target/bin/busread ] || echo "proving the programs' crates, one line each; this takes some minutes .." >&2
 	@.ci/told rt check busread couplingnut
-	@.ci/told rt staticlib couplingnut
+	@$(call staticlib,couplingnut)
 	@gcc -std=c11 -O2 -Wall -Wextra -Werror -o target/host/bussend host/bussend.c target/staticlib/libcouplingnut.a
 
 # The library for hosts, static and shared: the proved calls, and the words for their numbers (host/message.c). Linking stops at text
