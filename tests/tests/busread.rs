@@ -117,10 +117,10 @@ fn keep(seed: u64, input: &[u8], expected: &[u8], output: &[u8]) -> io::Result<P
 
 /// Its buffers together stay below 64 KiB, and little else is on the stack.
 ///
-/// They take 63,705 bytes. Measured at n = 8,192: the program always ends well
-/// on 72 KiB, of which up to 8 are where the system puts the start of the
-/// stack, and on 70 KiB only now and then. So 18 KiB more of buffers would not
-/// pass here, and twice the buffers would miss it by 44 KiB.
+/// They take 63,705 bytes. Measured at n = 8,192, 150 runs each: the program
+/// always ends well on 72 KiB and never on 62 (the system puts the start of the
+/// stack up to 8 KiB in). So 18 KiB more of buffers would never pass here, and
+/// twice the buffers would miss it by 44 KiB.
 #[test]
 fn runs_on_a_stack_of_80_kib() {
     let mut random = Random::new(256);
