@@ -1,23 +1,83 @@
 # Two commands do everything: `make run` builds the programs and reads an example, `make test` is the gate.
-.PHONY: run build test bench clean
+# Beyond them: `make` builds programs and libraries, `make install` and `make uninstall` take PREFIX and DESTDIR, `make dist` packs it
+# all for a PC without the toolchain.
+.PHONY: all run build library install uninstall dist test bench clean
+
+VERSION := $(shell cat VERSION)
+PREFIX = /usr/local
+DESTDIR =
+
+all: library
 
 # The example: a map, and the samples that the sender makes of one write, into the reader.
 run: build
 	@{ cat examples/scratch.map; target/host/bussend write 0x000A 0x3C; } | target/bin/busread
 
-# Proves what the programs are made of, unless that is done, and builds them.
+# Builds a proved crate's library for C, unless that was done since the crate was last proved: it proves the crate once more.
+staticlib = [ target/staticlib/lib$(1).a -nt target/stamp/$(1) ] || .ci/told rt staticlib $(1)
+
+# Proves what the programs are made of, unless that is done, and builds them. It says which crates it has proved, on standard error;
+# target/build.log has the rest.
 build:
 	@mkdir -p target/host
-	@rt check busread couplingnut >target/build.log 2>&1 || { cat target/build.log; exit 1; }
-	@rt staticlib couplingnut >target/build.log 2>&1 || { cat target/build.log; exit 1; }
+	@: >target/build.log
+	@[ -f target/bin/busread ] || echo "proving the programs' crates, one line each; this takes some minutes .." >&2
+	@.ci/told rt check busread couplingnut
+	@$(call staticlib,couplingnut)
 	@gcc -std=c11 -O2 -Wall -Wextra -Werror -o target/host/bussend host/bussend.c target/staticlib/libcouplingnut.a
+
+# The library for hosts, static and shared: the proved calls, and the words for their numbers (host/message.c). Linking stops at text
+# that would have to be relocated, so that the archive's position-independence is tested too.
+SONAME = libcouplingnut.so.0
+SHARED = libcouplingnut.so.$(VERSION)
+WORDS = $(wildcard host/message.c)
+library: build
+	@rm -rf target/lib && mkdir -p target/lib
+	@cp target/staticlib/libcouplingnut.a target/lib
+	@$(foreach c,$(WORDS),gcc -std=c11 -O2 -fPIC -Wall -Wextra -Werror -c -o target/lib/words.o $(c) && \
+		ar rD target/lib/libcouplingnut.a target/lib/words.o && rm target/lib/words.o)
+	@gcc -shared -Wl,-soname,$(SONAME) -Wl,-z,text,-z,defs,-z,relro,-z,now -o target/lib/$(SHARED) \
+		-Wl,--whole-archive target/lib/libcouplingnut.a -Wl,--no-whole-archive
+	@ln -s $(SHARED) target/lib/$(SONAME)
+	@ln -s $(SONAME) target/lib/libcouplingnut.so
+
+# What is installed, under PREFIX. PCPREFIX is the prefix that pkg-config gives.
+INSTALLED = bin/busread bin/bussend bin/mkmap include/couplingnut.h lib/libcouplingnut.a lib/$(SHARED) lib/$(SONAME) \
+	lib/libcouplingnut.so lib/pkgconfig/couplingnut.pc $(PYTHON)/couplingnut.py share/couplingnut/VERSION $(MAN:%=share/man/%)
+MAN = man1/busread.1 man1/bussend.1 man1/mkmap.1 man3/couplingnut.3
+PYTHON = lib/python3/dist-packages
+PCPREFIX = $(PREFIX)
+# The program that ends with a status, where it is there.
+BUSREAD = $(if $(wildcard host/busread.c),target/host/busread,target/bin/busread)
+TO = $(DESTDIR)$(PREFIX)
+install: library
+	@install -d $(sort $(dir $(INSTALLED:%=$(TO)/%)))
+	@install -m 755 $(BUSREAD) target/host/bussend tools/mkmap $(TO)/bin
+	@install -m 644 host/couplingnut.h $(TO)/include
+	@install -m 644 target/lib/libcouplingnut.a target/lib/$(SHARED) $(TO)/lib
+	@ln -sf $(SHARED) $(TO)/lib/$(SONAME)
+	@ln -sf $(SONAME) $(TO)/lib/libcouplingnut.so
+	@sed -e 's|@PREFIX@|$(PCPREFIX)|' -e 's|@VERSION@|$(VERSION)|' host/couplingnut.pc.in >target/lib/couplingnut.pc
+	@install -m 644 target/lib/couplingnut.pc $(TO)/lib/pkgconfig
+	@install -m 644 python/couplingnut.py $(TO)/$(PYTHON)
+	@install -m 644 VERSION $(TO)/share/couplingnut
+	@for page in $(MAN); do install -m 644 "man/$${page#*/}" "$(TO)/share/man/$$page"; done
+
+uninstall:
+	@rm -rf $(TO)/$(PYTHON)/__pycache__/couplingnut.*
+	@rm -f $(INSTALLED:%=$(TO)/%)
+	@-rmdir $(TO)/share/couplingnut 2>/dev/null || true
+
+# An archive and a .deb in target/dist.
+dist:
+	@host/dist
 
 test:
 	@.ci/run
 
 # Times the proved side against the second implementation, and draws docs/performance.svg (docs/PERFORMANCE.md).
 bench: build
-	@rt staticlib benchmark >target/build.log 2>&1 || { cat target/build.log; exit 1; }
+	@.ci/told rt staticlib benchmark
 	@cargo build --release --quiet --offline -p couplingnut-benchmark
 	@cargo run --release --quiet --offline -p couplingnut-benchmark -- measure
 

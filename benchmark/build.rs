@@ -1,13 +1,16 @@
-//! Says where the proved libraries are, which `make bench` builds first.
+//! Says where `libbenchmark.a` is, which `make bench` builds first, to `sides`,
+//! which links it. Where it is missing the benchmark is built all the same, and
+//! says so when it is run.
 
 use std::path::Path;
 
 fn main() {
     let folder = Path::new(env!("CARGO_MANIFEST_DIR")).join("../target/staticlib");
-    println!("cargo::rustc-link-search=native={}", folder.display());
-    for library in ["libbenchmark.a", "libcouplingnut.a"] {
-        let path = folder.join(library);
-        assert!(path.is_file(), "{} is missing; run `make bench`", path.display());
-        println!("cargo::rerun-if-changed={}", path.display());
+    let library = folder.join("libbenchmark.a");
+    println!("cargo::rustc-check-cfg=cfg(benchmark_library)");
+    println!("cargo::rerun-if-changed={}", library.display());
+    if library.is_file() {
+        println!("cargo::rustc-cfg=benchmark_library");
+        println!("cargo::rustc-link-search=native={}", folder.display());
     }
 }

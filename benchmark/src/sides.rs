@@ -38,48 +38,57 @@ impl Space {
     }
 }
 
-#[link(name = "benchmark", kind = "static")]
-extern "C" {
-    fn benchmark_read(
-        map: *const u8,
-        map_length: usize,
-        active: *mut u8,
-        active_length: usize,
-        buffer: *mut u8,
-        buffer_length: usize,
-        samples: *const u8,
-        samples_length: usize,
-        records: *mut u8,
-        records_length: usize,
-        count: *mut u64,
-    ) -> u32;
-}
-
 /// Opens and reads from the opened session.
 pub fn read_by(side: Side, map: &[u8], samples: &[u8], space: &mut Space) {
     match side {
-        Side::Proved => {
-            let Space { active, buffer, out, count, .. } = space;
-            // SAFETY: the pointers and lengths are those of slices, and what is
-            // written is borrowed for this call alone.
-            space.number = unsafe {
-                benchmark_read(
-                    map.as_ptr(),
-                    map.len(),
-                    active.as_mut_ptr(),
-                    active.len(),
-                    buffer.as_mut_ptr(),
-                    buffer.len(),
-                    samples.as_ptr(),
-                    samples.len(),
-                    out.as_mut_ptr(),
-                    out.len(),
-                    count,
-                )
-            };
-        }
+        Side::Proved => proved_read(map, samples, space),
         Side::Second => second_read(map, samples, space),
     }
+}
+
+#[cfg(benchmark_library)]
+fn proved_read(map: &[u8], samples: &[u8], space: &mut Space) {
+    #[link(name = "benchmark", kind = "static")]
+    extern "C" {
+        fn benchmark_read(
+            map: *const u8,
+            map_length: usize,
+            active: *mut u8,
+            active_length: usize,
+            buffer: *mut u8,
+            buffer_length: usize,
+            samples: *const u8,
+            samples_length: usize,
+            records: *mut u8,
+            records_length: usize,
+            count: *mut u64,
+        ) -> u32;
+    }
+
+    let Space { active, buffer, out, count, .. } = space;
+    // SAFETY: the pointers and lengths are those of slices, and what is
+    // written is borrowed for this call alone.
+    space.number = unsafe {
+        benchmark_read(
+            map.as_ptr(),
+            map.len(),
+            active.as_mut_ptr(),
+            active.len(),
+            buffer.as_mut_ptr(),
+            buffer.len(),
+            samples.as_ptr(),
+            samples.len(),
+            out.as_mut_ptr(),
+            out.len(),
+            count,
+        )
+    };
+}
+
+/// Stands in where the library is missing.
+#[cfg(not(benchmark_library))]
+fn proved_read(_: &[u8], _: &[u8], _: &mut Space) {
+    panic!("libbenchmark.a is missing; build it first: make bench")
 }
 
 #[no_mangle]

@@ -107,13 +107,18 @@ fn keep(seed: u64, input: &[u8], expected: &[u8], output: &[u8]) -> io::Result<P
 }
 
 /// Its buffers together stay below 64 KiB, and little else is on the stack.
+///
+/// They take 63,705 bytes. Measured at n = 8,192, 150 runs each: the program
+/// always ends well on 72 KiB and never on 62 (the system puts the start of the
+/// stack up to 8 KiB in). So 18 KiB more of buffers would never pass here, and
+/// twice the buffers would miss it by 44 KiB.
 #[test]
-fn runs_on_a_stack_of_256_kib() {
+fn runs_on_a_stack_of_80_kib() {
     let mut random = Random::new(256);
     let mut input = good_map(&mut random, 8_192);
     input.extend(traces::trace(&mut random, &input, 30_000, false));
     let mut limited = Command::new("sh");
-    limited.args(["-c", "ulimit -s 256 && exec \"$0\""]).arg(program::path()).env_clear();
+    limited.args(["-c", "ulimit -s 80 && exec \"$0\""]).arg(program::path()).env_clear();
     let ended = output_of(&mut limited, &input, Feed::Pipe);
     assert!(ended.status.success(), "{}", ended.status);
     assert_eq!(ended.output, report(&input));

@@ -1,0 +1,261 @@
+"""Couplingnut from Python: read and send on an ADI-SPI bus by the calls of libcouplingnut, which are proved.
+
+    import couplingnut as cn
+
+    chip = open('unit.map', 'rb').read()
+    active, buffer = cn.banks(chip)                     # two bytearrays, which the calls change in place
+    session = cn.open(chip, active, buffer)
+    for piece in pieces:                                # a recording may be cut anywhere
+        session, records = cn.read(chip, session, active, buffer, piece)
+        for record in records:
+            print(record)
+
+A call that the library refuses raises `Refused`, with the number and its words, and leaves all that it was lent as it was. A session is
+a value: calls give back a new one. A sample is one byte: bit 0 CSB, bit 1 SCLK, bit 2 SDIO, bit 3 SDO.
+
+The library is found beside the module as `make install` puts it, in the build's folder, or by the system; the environment variable
+COUPLINGNUT_LIBRARY names another one.
+"""
+import ctypes
+import os
+from typing import NamedTuple
+
+__all__ = ['Record', 'Refused', 'Session', 'Settings', 'SettingsInUse', 'banks', 'map_test', 'message', 'next_record', 'open', 'read',
+           'send', 'WRITE', 'READ', 'LSB_FIRST', 'ASCENDING', 'SINGLE_INSTRUCTION']
+
+# The direction of an order, and what its settings number is the sum of.
+WRITE, READ = 0, 1
+LSB_FIRST, ASCENDING, SINGLE_INSTRUCTION = 1, 2, 4
+
+SESSION_SIZE = 20
+RECORD_SIZE = 6
+MOST_SAMPLES = 48003  # No order gives more.
+PHASES = ('rest', 'instruction', 'data')
+
+
+def _library():
+    """The shared library."""
+    here = os.path.dirname(os.path.abspath(__file__))
+    named = os.environ.get('COUPLINGNUT_LIBRARY')
+    near = [os.path.join(here, *place, 'libcouplingnut.so.0') for place in (('..', '..'), ('..', 'target', 'lib'))]
+    return ctypes.CDLL(named or next(filter(os.path.exists, near), 'libcouplingnut.so.0'))
+
+
+def _declared(library):
+    """The library with the types of its calls, as couplingnut.h has them."""
+    given, lent, size = ctypes.c_char_p, ctypes.c_void_p, ctypes.c_size_t
+    wide, told = ctypes.c_uint64, ctypes.POINTER(ctypes.c_uint64)
+    opening = [given, size, lent, lent, size, lent, size]
+    reading = opening + [given, size, lent, size, told]
+    for name, types in [('map_test', [given, size]), ('open', opening), ('read', reading), ('next_record', reading + [told]),
+                        ('send', [wide, wide, wide, wide, given, size, lent, size, told])]:
+        call = getattr(library, 'couplingnut_' + name)
+        call.argtypes, call.restype = types, ctypes.c_uint32
+    library.couplingnut_message.argtypes, library.couplingnut_message.restype = [ctypes.c_uint32], ctypes.c_char_p
+    return library
+
+
+_LIBRARY = _declared(_library())
+
+
+class Refused(Exception):
+    """A call that was refused: `number` says why, and the text has its words."""
+
+    def __init__(self, number):
+        super().__init__(f'refused {number}: {message(number)}')
+        self.number = number
+
+
+class Settings(NamedTuple):
+    """The six settings of a session."""
+    lsb_first: bool
+    ascending: bool
+    sdo_active: bool
+    single_instruction: bool
+    buffer_readback: bool
+    slow: bool
+
+
+class SettingsInUse(NamedTuple):
+    """The four settings that the instruction under way was started with."""
+    lsb_first: bool
+    ascending: bool
+    sdo_active: bool
+    single_instruction: bool
+
+
+class Record(NamedTuple):
+    """What one record says; the last three bytes depend on the kind (couplingnut(3))."""
+    kind: int
+    address: int
+    byte3: int
+    byte4: int
+    byte5: int
+
+    def __str__(self):
+        """The line that busread prints."""
+        return f'{"?WRC"[self.kind]} {self.address:04X} {self.byte3:02X} {self.byte4:02X} {self.byte5}'
+
+
+class Session:
+    """What the reader keeps between calls, as a value of 20 bytes. Any such bytes make one; the reader refuses those that are none."""
+    __slots__ = ('_bytes',)
+
+    def __init__(self, data):
+        data = bytes(data)
+        if len(data) != SESSION_SIZE:
+            raise ValueError(f'a session has {SESSION_SIZE} bytes, and not {len(data)}')
+        self._bytes = data
+
+    def __bytes__(self):
+        return self._bytes
+
+    def __eq__(self, other):
+        return isinstance(other, Session) and self._bytes == other._bytes
+
+    def __hash__(self):
+        return hash(self._bytes)
+
+    def __repr__(self):
+        return f'Session(bytes.fromhex({self._bytes.hex()!r}))'
+
+    @property
+    def version(self):
+        """The version of the layout."""
+        return self._bytes[0]
+
+    @property
+    def last_csb(self):
+        """The last level of the select."""
+        return self._bytes[1]
+
+    @property
+    def last_sclk(self):
+        """The last level of the clock."""
+        return self._bytes[2]
+
+    @property
+    def phase(self):
+        """'rest', 'instruction' or 'data'; the number itself where it is none of them."""
+        number = self._bytes[3]
+        return PHASES[number] if number < len(PHASES) else number
+
+    @property
+    def bits(self):
+        """How many bits of the instruction or byte under way were taken."""
+        return self._bytes[4]
+
+    @property
+    def value(self):
+        """The value of these bits."""
+        return int.from_bytes(self._bytes[5:7], 'big')
+
+    @property
+    def address(self):
+        """The address of the byte under way."""
+        return int.from_bytes(self._bytes[7:9], 'big')
+
+    @property
+    def direction(self):
+        """WRITE or READ."""
+        return self._bytes[9]
+
+    @property
+    def settings(self):
+        """The settings, which the next instruction starts with."""
+        return Settings(*map(bool, self._bytes[10:16]))
+
+    @property
+    def settings_in_use(self):
+        """The settings that this instruction started with."""
+        return SettingsInUse(*map(bool, self._bytes[16:20]))
+
+
+def message(number):
+    """The words for a number."""
+    return _LIBRARY.couplingnut_message(number).decode()
+
+
+def _accept(number):
+    if number != 0:
+        raise Refused(number)
+
+
+def _lent(memory):
+    """Memory that a call may write, and its length. It is at least one byte, so that there is a pointer to hand over."""
+    length = len(memory)
+    return (ctypes.c_uint8 * length).from_buffer(memory) if length else (ctypes.c_uint8 * 1)(), length
+
+
+def _banks_lent(active, buffer):
+    """Two banks, which may not overlap, with their lengths."""
+    (first, first_length), (second, second_length) = _lent(active), _lent(buffer)
+    a, b = ctypes.addressof(first), ctypes.addressof(second)
+    if a < b + second_length and b < a + first_length:
+        raise ValueError('the two banks overlap')
+    return first, first_length, second, second_length
+
+
+def _records_of(data, count):
+    rows = (data[at:at + RECORD_SIZE] for at in range(0, RECORD_SIZE * count, RECORD_SIZE))
+    return [Record(row[0], row[1] * 256 + row[2], *row[3:]) for row in rows]
+
+
+def _wide(number, name):
+    """A number that crosses whole, since ctypes would cut it in silence."""
+    if not 0 <= number < 2 ** 64:
+        raise ValueError(f'{name} is no number of 64 bits')
+    return number
+
+
+def map_test(map):
+    """Refuses bytes that are no good register map (2, 3)."""
+    map = bytes(map)
+    _accept(_LIBRARY.couplingnut_map_test(map, len(map)))
+
+
+def banks(map):
+    """Two banks as long as a map has registers, for `open` to fill."""
+    n = int.from_bytes(bytes(map)[3:5], 'big')
+    return bytearray(n), bytearray(n)
+
+
+def open(map, active, buffer):
+    """Puts a map's defaults in both banks, and gives the opened session. Refused: 2, 3, 4."""
+    map, room = bytes(map), (ctypes.c_uint8 * SESSION_SIZE)()
+    _accept(_LIBRARY.couplingnut_open(map, len(map), room, *_banks_lent(active, buffer)))
+    return Session(room)
+
+
+def read(map, session, active, buffer, samples, room=None):
+    """Reads samples, at most 65,536: the next session, and a list of records. The banks change in place.
+
+    `room` is how many records there is room for; as many as there can be, if it isn't given. Refused: 1 to 6.
+    """
+    map, samples = bytes(map), bytes(samples)
+    state = (ctypes.c_uint8 * SESSION_SIZE)(*bytes(session))
+    records = bytearray(RECORD_SIZE * (len(samples) // 3 + 1 if room is None else room))
+    count = ctypes.c_uint64()
+    _accept(_LIBRARY.couplingnut_read(map, len(map), state, *_banks_lent(active, buffer), samples, len(samples), *_lent(records),
+                                      ctypes.byref(count)))
+    return Session(state), _records_of(records, count.value)
+
+
+def next_record(map, session, active, buffer, samples):
+    """Reads samples up to and with the first that gives a record, or all of them: the next session, the record or None, and how many
+    samples were read. Refused: 1 to 5."""
+    map, samples = bytes(map), bytes(samples)
+    state = (ctypes.c_uint8 * SESSION_SIZE)(*bytes(session))
+    records = bytearray(RECORD_SIZE)
+    count, taken = ctypes.c_uint64(), ctypes.c_uint64()
+    _accept(_LIBRARY.couplingnut_next_record(map, len(map), state, *_banks_lent(active, buffer), samples, len(samples), *_lent(records),
+                                             ctypes.byref(count), ctypes.byref(taken)))
+    return Session(state), next(iter(_records_of(records, count.value)), None), taken.value
+
+
+def send(direction, settings, start, count, data=b'', room=MOST_SAMPLES):
+    """The samples of a run: `count` bytes from `start` on, which `data` has for a write. Refused: 7 to 11."""
+    data, out, samples = bytes(data), bytearray(room), ctypes.c_uint64()
+    _accept(_LIBRARY.couplingnut_send(_wide(direction, 'direction'), _wide(settings, 'settings'), _wide(start, 'start'),
+                                      _wide(count, 'count'), data, len(data), *_lent(out), ctypes.byref(samples)))
+    return bytes(out[:samples.value])
