@@ -3,14 +3,19 @@
 
 # The example: a map, and the samples that the sender makes of one write, into the reader.
 run: build
-	@{ cat examples/scratch.map; target/host/bussend write 0x000A 0x3C; } | target/bin/busread
+	@target/host/bussend write 0x000A 0x3C | target/host/busread examples/scratch.map
+
+# The two programs with an exit status are C over proved code, and tell the version of the file VERSION.
+COMPILE = gcc -std=c11 -O2 -Wall -Wextra -Werror -D_DEFAULT_SOURCE -DCOUPLINGNUT_VERSION='"$(shell cat VERSION)"'
 
 # Proves what the programs are made of, unless that is done, and builds them.
 build:
 	@mkdir -p target/host
 	@rt check busread host >target/build.log 2>&1 || { cat target/build.log; exit 1; }
 	@rt staticlib host >target/build.log 2>&1 || { cat target/build.log; exit 1; }
-	@gcc -std=c11 -O2 -Wall -Wextra -Werror -o target/host/bussend host/bussend.c target/staticlib/libhost.a
+	@rt staticlib recording >target/build.log 2>&1 || { cat target/build.log; exit 1; }
+	@$(COMPILE) -o target/host/bussend host/bussend.c host/message.c target/staticlib/libhost.a
+	@$(COMPILE) -o target/host/busread host/busread.c host/message.c target/staticlib/librecording.a
 
 test:
 	@.ci/run

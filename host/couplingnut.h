@@ -16,7 +16,7 @@
  *     10  order: a single-instruction write with 0x0000 or 0x0001 anywhere but last
  *     11  order: the outgoing buffer is too short
  *
- * (1 and 4 to 6 are the reader's, which is not exported.) couplingnut_words gives the words for a number.
+ * (1 and 4 to 6 are the reader's, which is not exported.) couplingnut_message gives the words for a number.
  *
  * No refusal alters lent memory, but for the count of samples, which it sets to 0.
  *
@@ -71,30 +71,8 @@ COUPLINGNUT_NOT_NULL
 uint32_t couplingnut_send(uint64_t direction, uint64_t settings, uint64_t start, uint64_t count, const uint8_t *data,
                           size_t data_length, uint8_t *out, size_t out_length, uint64_t *samples);
 
-/* What a number says, in words; never null. */
-static inline const char *couplingnut_words(unsigned number)
-{
-    switch (number) {
-    case 0:
-        return "done";
-    case 2:
-        return "the map's length, version or count is wrong, or it has fewer than 5 bytes";
-    case 3:
-        return "an entry of the map breaks a rule";
-    case 7:
-        return "the direction is above 1, or the settings number above 7";
-    case 8:
-        return "the count is not 1 to 1,000, or the data is not as long as it says";
-    case 9:
-        return "the start address is above 0x7FFF";
-    case 10:
-        return "a single-instruction write has 0x0000 or 0x0001 anywhere but last";
-    case 11:
-        return "the outgoing buffer is too short";
-    default:
-        return "no call here gives this number";
-    }
-}
+/* What a number says and what to do, in words, for 0 to 11; never null. Its code is host/message.c. */
+const char *couplingnut_message(uint32_t number);
 
 /* An order to the sender. */
 struct couplingnut_order {
