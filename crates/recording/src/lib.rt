@@ -26,7 +26,7 @@ use session::Session;
 const PIECE: usize = 4096;
 
 // The bytes for the records of a piece.
-pub const RECORD_SPACE: usize = 8400;
+const RECORD_SPACE: usize = 8400;
 
 // How a reading ends. A file that failed has left its reason in the system's errno.
 pub enum End {
