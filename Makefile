@@ -11,7 +11,10 @@ all: library
 
 # The example: a map, and the samples that the sender makes of one write, into the reader.
 run: build
-	@{ cat examples/scratch.map; target/host/bussend write 0x000A 0x3C; } | target/bin/busread
+	@target/host/bussend write 0x000A 0x3C | target/host/busread examples/scratch.map
+
+# The two programs with an exit status are C over proved code, and tell the version of the file VERSION.
+COMPILE = gcc -std=c11 -O2 -Wall -Wextra -Werror -D_DEFAULT_SOURCE -DCOUPLINGNUT_VERSION='"$(shell cat VERSION)"'
 
 # Builds a proved crate's library for C, unless that was done since the crate was last proved: it proves the crate once more.
 staticlib = [ target/staticlib/lib$(1).a -nt target/stamp/$(1) ] || .ci/told rt staticlib $(1)
@@ -24,18 +27,19 @@ build:
 	@[ -f target/bin/busread ] || echo "proving the programs' crates, one line each; this takes some minutes .." >&2
 	@.ci/told rt check busread couplingnut
 	@$(call staticlib,couplingnut)
-	@gcc -std=c11 -O2 -Wall -Wextra -Werror -o target/host/bussend host/bussend.c target/staticlib/libcouplingnut.a
+	@$(call staticlib,recording)
+	@$(COMPILE) -o target/host/bussend host/bussend.c host/message.c target/staticlib/libcouplingnut.a
+	@$(COMPILE) -o target/host/busread host/busread.c host/message.c target/staticlib/librecording.a
 
 # The library for hosts, static and shared: the proved calls, and the words for their numbers (host/message.c). Linking stops at text
 # that would have to be relocated, so that the archive's position-independence is tested too.
 SONAME = libcouplingnut.so.0
 SHARED = libcouplingnut.so.$(VERSION)
-WORDS = $(wildcard host/message.c)
 library: build
 	@rm -rf target/lib && mkdir -p target/lib
 	@cp target/staticlib/libcouplingnut.a target/lib
-	@$(foreach c,$(WORDS),gcc -std=c11 -O2 -fPIC -Wall -Wextra -Werror -c -o target/lib/words.o $(c) && \
-		ar rD target/lib/libcouplingnut.a target/lib/words.o && rm target/lib/words.o)
+	@gcc -std=c11 -O2 -fPIC -Wall -Wextra -Werror -c -o target/lib/words.o host/message.c
+	@ar rD target/lib/libcouplingnut.a target/lib/words.o && rm target/lib/words.o
 	@gcc -shared -Wl,-soname,$(SONAME) -Wl,-z,text,-z,defs,-z,relro,-z,now -o target/lib/$(SHARED) \
 		-Wl,--whole-archive target/lib/libcouplingnut.a -Wl,--no-whole-archive
 	@ln -s $(SHARED) target/lib/$(SONAME)
@@ -47,12 +51,10 @@ INSTALLED = bin/busread bin/bussend bin/mkmap include/couplingnut.h lib/libcoupl
 MAN = man1/busread.1 man1/bussend.1 man1/mkmap.1 man3/couplingnut.3
 PYTHON = lib/python3/dist-packages
 PCPREFIX = $(PREFIX)
-# The program that ends with a status, where it is there.
-BUSREAD = $(if $(wildcard host/busread.c),target/host/busread,target/bin/busread)
 TO = $(DESTDIR)$(PREFIX)
 install: library
 	@install -d $(sort $(dir $(INSTALLED:%=$(TO)/%)))
-	@install -m 755 $(BUSREAD) target/host/bussend tools/mkmap $(TO)/bin
+	@install -m 755 target/host/busread target/host/bussend tools/mkmap $(TO)/bin
 	@install -m 644 host/couplingnut.h $(TO)/include
 	@install -m 644 target/lib/libcouplingnut.a target/lib/$(SHARED) $(TO)/lib
 	@ln -sf $(SHARED) $(TO)/lib/$(SONAME)

@@ -2,11 +2,12 @@
  * bussend: the samples of one read or write run, one byte each, on standard output.
  *
  * Exit status: 0 done; 1 the sender refused the order; 2 the command line is wrong; 3 the samples could not be written.
- * Standard error says which; with 1 and 2 nothing was written.
+ * Standard error says which; with 1 and 2 nothing was written. COUPLINGNUT_VERSION comes from the build.
  */
 #include "couplingnut.h"
 
 #include <errno.h>
+#include <signal.h>
 #include <stdbool.h>
 #include <stdio.h>
 #include <stdlib.h>
@@ -16,7 +17,10 @@ enum { DONE = 0, REFUSED = 1, WRONG_WORDS = 2, FAILED = 3 };
 
 static const char usage[] = "usage: bussend write [--lsb] [--ascending] [--single] START [BYTE..]\n"
                             "       bussend read [--lsb] [--ascending] [--single] START COUNT\n"
+                            "       bussend --help | --version\n"
                             "Numbers are decimal, or hexadecimal after 0x. The samples go to standard output.\n";
+
+static const char version[] = "bussend " COUPLINGNUT_VERSION "\n";
 
 /* The options, and what each adds to the settings number. */
 static const struct {
@@ -148,11 +152,11 @@ static bool read_order(char **words, uint8_t *bytes, struct couplingnut_order *o
     return reads ? read_count(words + 1, order) : read_bytes(words + 1, bytes, order);
 }
 
-/* Writes the samples to standard output, to the last byte. */
-static int write_samples(const uint8_t *samples, size_t count)
+/* Writes bytes to standard output, to the last one. */
+static int write_out(const char *what, const void *bytes, size_t count)
 {
-    if (fwrite(samples, 1, count, stdout) != count || fclose(stdout) != 0) {
-        fprintf(stderr, "bussend: the samples could not be written: %s\n", strerror(errno));
+    if (fwrite(bytes, 1, count, stdout) != count || fclose(stdout) != 0) {
+        fprintf(stderr, "bussend: %s could not be written: %s\n", what, strerror(errno));
         return FAILED;
     }
     return DONE;
@@ -166,10 +170,10 @@ static int send_order(const struct couplingnut_order *order)
     uint32_t number = couplingnut_send_order(order, out, sizeof out, &samples);
 
     if (number != 0) {
-        fprintf(stderr, "bussend: refused %u: %s\n", (unsigned)number, couplingnut_words(number));
+        fprintf(stderr, "bussend: refused %u: %s\n", (unsigned)number, couplingnut_message(number));
         return REFUSED;
     }
-    return write_samples(out, (size_t)samples);
+    return write_out("the samples", out, (size_t)samples);
 }
 
 int main(int argc, char **argv)
@@ -178,9 +182,19 @@ int main(int argc, char **argv)
     uint8_t *bytes = malloc((size_t)argc + 1);
     int status = WRONG_WORDS;
 
+    /* A reader that has gone is then a write that fails. */
+    signal(SIGPIPE, SIG_IGN);
     if (bytes == NULL) {
         fprintf(stderr, "bussend: no memory for the bytes\n");
         return FAILED;
+    }
+    if (argc > 1 && strcmp(argv[1], "--help") == 0) {
+        free(bytes);
+        return write_out("the help", usage, sizeof usage - 1);
+    }
+    if (argc > 1 && strcmp(argv[1], "--version") == 0) {
+        free(bytes);
+        return write_out("the version", version, sizeof version - 1);
     }
     if (read_order(argv + (argc > 0), bytes, &order)) {
         status = send_order(&order);

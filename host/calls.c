@@ -185,20 +185,19 @@ static void check_next(void)
 
 static void check_words(void)
 {
-    static const unsigned given[] = {0, 1, 2, 3, 4, 5, 6, 7, 8, 9, 10, 11};
-    const char *none = couplingnut_words(12);
-    size_t i;
-    size_t j;
+    const char *none = couplingnut_message(12);
+    uint32_t i;
+    uint32_t j;
     int unlike = 1;
 
-    for (i = 0; i < sizeof given / sizeof given[0]; i++) {
-        unlike = unlike && strcmp(couplingnut_words(given[i]), none) != 0;
+    for (i = 0; i <= 11; i++) {
+        unlike = unlike && strcmp(couplingnut_message(i), none) != 0;
         for (j = 0; j < i; j++) {
-            unlike = unlike && strcmp(couplingnut_words(given[i]), couplingnut_words(given[j])) != 0;
+            unlike = unlike && strcmp(couplingnut_message(i), couplingnut_message(j)) != 0;
         }
     }
     check(unlike, "each number has its own words");
-    check(strcmp(couplingnut_words(4294967295u), none) == 0, "a number that no call gives has words too");
+    check(strcmp(couplingnut_message(UINT32_MAX), none) == 0, "a number that no call gives has words too");
 }
 
 int main(void)

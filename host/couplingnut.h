@@ -158,41 +158,8 @@ COUPLINGNUT_NOT_NULL
 uint32_t couplingnut_send(uint64_t direction, uint64_t settings, uint64_t start, uint64_t count, const uint8_t *data,
                           size_t data_length, uint8_t *out, size_t out_length, uint64_t *samples);
 
-/* What a number says, in words that last as long as the program; never null, whatever the number is. */
+/* What a number says and what to do, in words, for 0 to 11; never null. Its code is host/message.c. */
 const char *couplingnut_message(uint32_t number);
-
-/* The same in the header alone, for a program that links no words. */
-static inline const char *couplingnut_words(unsigned number)
-{
-    switch (number) {
-    case COUPLINGNUT_DONE:
-        return "done";
-    case COUPLINGNUT_BAD_SESSION:
-        return "the session is not sound";
-    case COUPLINGNUT_BAD_MAP_FORM:
-        return "the map's length, version or count is wrong, or it has fewer than 5 bytes";
-    case COUPLINGNUT_BAD_MAP_ENTRY:
-        return "an entry of the map breaks a rule";
-    case COUPLINGNUT_BAD_BANK:
-        return "a bank does not have a byte for each register";
-    case COUPLINGNUT_BAD_SAMPLES:
-        return "there are more than 65,536 samples, or one has any of bits 4 to 7 set";
-    case COUPLINGNUT_SHORT_RECORDS:
-        return "the records need more bytes than are lent";
-    case COUPLINGNUT_BAD_ORDER:
-        return "the direction is above 1, or the settings number above 7";
-    case COUPLINGNUT_BAD_COUNT:
-        return "the count is not 1 to 1,000, or the data is not as long as it says";
-    case COUPLINGNUT_BAD_START:
-        return "the start address is above 0x7FFF";
-    case COUPLINGNUT_BAD_SINGLE:
-        return "a single-instruction write has 0x0000 or 0x0001 anywhere but last";
-    case COUPLINGNUT_SHORT_OUT:
-        return "the outgoing buffer is too short";
-    default:
-        return "no call here gives this number";
-    }
-}
 
 /* An order to the sender. */
 struct couplingnut_order {

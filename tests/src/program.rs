@@ -33,14 +33,24 @@ pub enum Feed {
 /// The program, from the environment variable BUSREAD or where the build puts
 /// it. Without it no test that needs it passes.
 pub fn path() -> PathBuf {
-    let built = Path::new(env!("CARGO_MANIFEST_DIR")).join("../target/bin/busread");
-    let path = std::env::var_os("BUSREAD").map_or(built, PathBuf::from);
-    assert!(path.is_file(), "{} is missing; build it first: rt check", path.display());
-    path
+    found("BUSREAD", "../target/bin/busread", "rt check")
 }
 
 pub fn busread() -> Command {
     Command::new(path())
+}
+
+/// The program in C that ends with a status, from BUSREAD_C or where the build
+/// puts it.
+pub fn busread_with_status() -> Command {
+    Command::new(found("BUSREAD_C", "../target/host/busread", "make build"))
+}
+
+fn found(variable: &str, built: &str, build: &str) -> PathBuf {
+    let built = Path::new(env!("CARGO_MANIFEST_DIR")).join(built);
+    let path = std::env::var_os(variable).map_or(built, PathBuf::from);
+    assert!(path.is_file(), "{} is missing; build it first: {build}", path.display());
+    path
 }
 
 /// Runs the program on a whole input; its words are not looked at.

@@ -17,12 +17,14 @@ use couplingnut_tests::environment::{differences, number_from};
 use couplingnut_tests::generate::maps::{good_map, simple_map};
 use couplingnut_tests::generate::random::Random;
 use couplingnut_tests::generate::{self, traces};
-use couplingnut_tests::program::{self, busread, output_of, run, Ended, Feed};
+use couplingnut_tests::program::{self, busread, busread_with_status, output_of, run, Ended, Feed};
 use couplingnut_tests::second::report::{report, report_to};
 use couplingnut_tests::second::sender::Order;
 
 const SIGPIPE: i32 = 13;
 const WORKERS: usize = 2;
+/// Inputs for the comparison of the two programs called busread.
+const STATUS_CASES: u64 = 500;
 /// After so many differences the rest of the cases is left alone.
 const ENOUGH: usize = 5;
 
@@ -104,6 +106,44 @@ fn keep(seed: u64, input: &[u8], expected: &[u8], output: &[u8]) -> io::Result<P
     fs::write(path.with_extension("expected"), expected)?;
     fs::write(path.with_extension("output"), output)?;
     Ok(path)
+}
+
+/// The program in C prints what the other one prints, byte for byte, and ends
+/// with 1 exactly where that is a refusal.
+#[test]
+fn with_a_status_prints_the_same() {
+    let mut refused = 0;
+    for seed in 0..STATUS_CASES {
+        let input = generate::input(seed);
+        let expected = output_of(&mut busread(), &input, Feed::File);
+        let feed = if seed % 2 == 0 { Feed::File } else { Feed::Portions(Random::new(seed)) };
+        let ended = output_of(&mut busread_with_status(), &input, feed);
+        let told = || first_difference(&ended.output, &expected.output);
+        assert!(ended.output == expected.output, "seed {seed}: {}", told());
+        let refusal = i32::from(last_line(&expected.output).starts_with("refused"));
+        assert_eq!(ended.status.code(), Some(refusal), "seed {seed}");
+        refused += refusal;
+    }
+    assert!(0 < refused && refused < STATUS_CASES as i32, "{refused} refusals");
+}
+
+/// A map and its samples in two files are read as the two joined.
+#[test]
+fn with_a_status_reads_two_files() {
+    let folder = std::env::temp_dir().join(format!("busread-files-{}", std::process::id()));
+    fs::create_dir_all(&folder).expect("a folder for the files");
+    let (map, samples) = (folder.join("map"), folder.join("samples"));
+    for seed in 0..40 {
+        let mut random = Random::new(seed);
+        let bytes = good_map(&mut random, 16 + 5 * seed as usize);
+        let trace = traces::trace(&mut random, &bytes, 9_000, seed % 2 == 0);
+        fs::write(&map, &bytes).expect("the map's file");
+        fs::write(&samples, &trace).expect("the samples' file");
+        let ended = output_of(busread_with_status().args([&map, &samples]), &[], Feed::Pipe);
+        assert!(ended.output == report(&[bytes, trace].concat()), "seed {seed}");
+        assert!(ended.status.success(), "seed {seed}: {}", ended.status);
+    }
+    fs::remove_dir_all(&folder).expect("the files go");
 }
 
 /// Its buffers together stay below 64 KiB, and little else is on the stack.

@@ -11,6 +11,7 @@ use lib.Seq.{length-take-le}
 use borrow.Author.Tests.{eq-eqb, ne-eqb, le-leb, lt-leb, leb-true}
 use Rattle.bits.specs.Tests.{unless}
 use Rattle.bits.proofs.Cases.{yes, no, and-left, and-right}
+use Rattle.sizes.specs.Sizes.{recordSize}
 use Rattle.maptest.specs.MapTest.{mapNumber}
 use Rattle.session.specs.declared.Session.{Session}
 use Rattle.session.specs.declared.Event.{Event}
@@ -18,7 +19,7 @@ use Rattle.session.specs.State.{soundSession}
 use Rattle.registers.specs.Banks.{banks, Mapped}
 use Rattle.records.specs.Records.{recordsIn}
 use Rattle.records.specs.Contracts.{Taking, Taken}
-use Rattle.records.proofs.Laws.{six, place-after}
+use Rattle.records.proofs.Laws.{record-size, place-after}
 use Rattle.run.specs.Reading.{World, world, recordCount}
 use Rattle.run.specs.Contracts.{Ready}
 use Rattle.run.proofs.Bound.{records-bound}
@@ -37,8 +38,12 @@ same-rest : (t : Bool) (n : ℕ) {p q : ℕ} → (t ≡ true → p ≡ q) → un
 same-rest true n e = e refl
 same-rest false n e = refl
 
--- with room for the records of any samples, the reader's number is that of the samples
-pub room-enough : (m : List ℕ) (w : World) (xs : List ℕ) → readNumber m w xs 131076 ≡ samplesNumber m w xs
+-- room for the records of any 65,536 samples
+abbrev roomForAny : ℕ
+roomForAny = recordSize * 21846
+
+-- with that room, the reader's number is that of the samples
+pub room-enough : (m : List ℕ) (w : World) (xs : List ℕ) → readNumber m w xs roomForAny ≡ samplesNumber m w xs
 unfolding readNumber samplesNumber
 room-enough m w xs =
     same-rest (soundSession (w .session)) 1
@@ -47,8 +52,8 @@ room-enough m w xs =
     (λ t. same-rest (leb (length xs) 65536 && samplesGood xs) 5
     (λ t.
     let few : length xs ≤ 65536 = leb-true (length xs) 65536 (and-left (leb (length xs) 65536) (samplesGood xs) t) in
-    let fits : 6 * recordCount (w .session) xs ≤ 131076 = omega (arith, records-bound (w .session) xs) in
-    rw (le-leb (6 * recordCount (w .session) xs) 131076 fits)))))
+    let fits : recordSize * recordCount (w .session) xs ≤ roomForAny = omega (arith, records-bound (w .session) xs) in
+    rw (le-leb (recordSize * recordCount (w .session) xs) roomForAny fits)))))
 
 good-take : (k : ℕ) (xs : List ℕ) → samplesGood xs ≡ true → samplesGood (take k xs) ≡ true
 unfolding samplesGood
@@ -72,14 +77,14 @@ module _ (m : List ℕ) (s : Session) (act buf xs old : List ℕ) where
 
   module _ (n : ℕ) (number : n ≡ samplesNumber m given xs) (zero-is : n ≡ 0) where
     -- each test up to that of the samples holds
-    pub tested : ReadTests m given xs 131076
-    tested = read-tests m given xs 131076 (room-enough m given xs ∙ sym number ∙ zero-is)
+    pub tested : ReadTests m given xs roomForAny
+    tested = read-tests m given xs roomForAny (room-enough m given xs ∙ sym number ∙ zero-is)
 
     few : length xs ≤ 65536
     few = leb-true (length xs) 65536 (and-left (leb (length xs) 65536) (samplesGood xs) (tested .samples))
 
     pub mapped : Mapped m (banks act buf)
-    mapped = fits-mapped m (banks act buf) (tested .good-map) (tested .fits)
+    mapped = fits-mapped m (banks act buf) (tested .fits)
 
     module _ {e : Event} {t : Session} {j : ℕ} (f : First xs s e t j) where
       short : length (take j xs) ≡ j
@@ -91,20 +96,20 @@ module _ (m : List ℕ) (s : Session) (act buf xs old : List ℕ) where
           let end : length (take j xs) ≤ j = omega (arith, short) in
           omega (arith, counting-ended end (counted-next (counting-begun (take j xs) s (tested .sound)) (next-take (f .within) (f .path))))
 
-      pub size-fits : 6 * recordsIn e < 2 ^ 64
+      pub size-fits : recordSize * recordsIn e < 2 ^ 64
       size-fits = omega (arith, count-first, records-bound s (take j xs), short, f .within, few)
 
       -- only the room is left to test
-      room-next : (r : ℕ) → r ≡ unless (leb (6 * recordsIn e) (length old)) 6 0 → r ≡ nextNumber m given xs (length old)
+      room-next : (r : ℕ) → r ≡ unless (leb (recordSize * recordsIn e) (length old)) 6 0 → r ≡ nextNumber m given xs (length old)
       unfolding nextNumber
       room-next r q = yes _ (eq-eqb (samplesNumber m given xs) 0 (sym number ∙ zero-is)) (rw (taken-first f, count-first) q)
 
-      pub no-room : length old < 6 * recordsIn e → next (outcome 6 given 0 old) 0 ≡ nextOf m given xs old
-      no-room h = next-refused 6 (room-next 6 (no _ (lt-leb (6 * recordsIn e) (length old) h) refl)) (λ q. omega arith)
+      pub no-room : length old < recordSize * recordsIn e → next (outcome 6 given 0 old) 0 ≡ nextOf m given xs old
+      no-room h = next-refused 6 (room-next 6 (no _ (lt-leb (recordSize * recordsIn e) (length old) h) refl)) (λ q. omega arith)
 
-      module _ (room : 6 * recordsIn e ≤ length old) where
+      module _ (room : recordSize * recordsIn e ≤ length old) where
         pub taking : Taking m (banks act buf) (s .settings) e old 0
-        taking = record { mapped = mapped; room = omega (arith, six m (banks act buf) (s .settings) e) }
+        taking = record { mapped = mapped; room = omega (arith, record-size m (banks act buf) (s .settings) e) }
 
         -- the reader would not refuse just the samples that are read
         not-refused : 0 ≡ readNumber m given (take j xs) (length old)
@@ -112,13 +117,13 @@ module _ (m : List ℕ) (s : Session) (act buf xs old : List ℕ) where
         not-refused =
             let good : samplesGood (take j xs) ≡ true = good-take j xs (and-right (leb (length xs) 65536) (samplesGood xs) (tested .samples)) in
             let less : length (take j xs) ≤ 65536 = omega (arith, short, f .within, few) in
-            let fits : 6 * recordCount s (take j xs) ≤ length old = omega (arith, count-first) in
+            let fits : recordSize * recordCount s (take j xs) ≤ length old = omega (arith, count-first) in
             let samples : (leb (length (take j xs)) 65536 && samplesGood (take j xs)) ≡ true = rw (le-leb (length (take j xs)) 65536 less) good in
             yes _ (tested .sound)
             (yes _ (eq-eqb (mapNumber m) 0 (tested .good-map))
             (yes _ (tested .fits)
             (yes _ samples
-            (yes _ (le-leb (6 * recordCount s (take j xs)) (length old) fits) refl))))
+            (yes _ (le-leb (recordSize * recordCount s (take j xs)) (length old) fits) refl))))
 
         ready : Ready true m given (take j xs) old
         ready = record {
@@ -134,7 +139,7 @@ module _ (m : List ℕ) (s : Session) (act buf xs old : List ℕ) where
         next-done {act′} {buf′} {new} {size} a count c =
             let end : length (take j xs) ≤ j = omega (arith, short) in
             let done = ended end (again (begun m (take j xs) given old ready) (next-take (f .within) (f .path)) act′ buf′ new size a) in
-            let same : size / 6 ≡ count = omega (arith, place-after a) in
-            let number : nextNumber m given xs (length old) ≡ 0 = sym (room-next 0 (yes _ (le-leb (6 * recordsIn e) (length old) room) refl)) in
+            let same : size / recordSize ≡ count = omega (arith, place-after a) in
+            let number : nextNumber m given xs (length old) ≡ 0 = sym (room-next 0 (yes _ (le-leb (recordSize * recordsIn e) (length old) room) refl)) in
             let read = rw same at (read-done m given (take j xs) old 0 not-refused refl (world t act′ buf′) size new done) in
             yes _ (eq-eqb (nextNumber m given xs (length old)) 0 number) (rw (taken-first f) (ap (λ (o : Outcome). next o j) read))

@@ -5,6 +5,7 @@ use mathlib.Core.List.{List, [], _∷_}
 use lib.ListN.{length, take}
 use lib.Dec.{eqb, leb}
 use Rattle.bits.specs.Tests.{unless}
+use Rattle.sizes.specs.Sizes.{recordSize}
 use Rattle.maptest.specs.MapTest.{mapNumber}
 use Rattle.session.specs.declared.Session.{Session}
 use Rattle.session.specs.State.{soundSession}
@@ -37,7 +38,7 @@ samplesNumber m w samples =
 unfoldable pub nextNumber : List ℕ → World → List ℕ → ℕ → ℕ
 nextNumber m w samples room =
     unless (eqb (samplesNumber m w samples) 0) (samplesNumber m w samples)
-    (unless (leb (6 * recordCount (w .session) (firstOf (w .session) samples)) room) 6
+    (unless (leb (recordSize * recordCount (w .session) (firstOf (w .session) samples)) room) 6
     0)
 
 -- what the call leaves: what a call of the reader leaves, and how many samples were read

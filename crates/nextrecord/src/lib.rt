@@ -10,12 +10,12 @@ ghost use Rattle.reader.specs.Calls.{outcome};
 ghost use Rattle.nextrecord.specs.NextRecord.{samplesNumber, next, nextOf};
 ghost use Rattle.nextrecord.specs.Contracts.{First};
 use maptest::map_test;
-use records::RECORD;
 use records::records_in;
 use records::take_event;
 use refusals::read_refusal;
 use session::Event;
 use session::Session;
+use sizes::RECORD;
 use soundness::sound;
 use trace::Next;
 use trace::next_event;
@@ -29,7 +29,7 @@ pub struct NextRecord {
 }
 
 // Room for the records of any samples that are not refused: 65,536 give at most 21,846.
-const ROOM: usize = 131076;
+const ROOM: usize = RECORD * 21846;
 
 // The number that the samples, and all that comes before them, are refused with; 0 where only the room is left to test.
 fn samples_refusal(map: &[u8], session: Session, active: &[u8], buffer: &[u8], samples: &[u8]) -> u8

@@ -1,0 +1,17 @@
+-- Bounds of what comes from a file.
+use Prim.Native.Nat.{ℕ, _+_, _%_, _≤_}
+use mathlib.Core.Bool.{cond, _&&_}
+use lib.Dec.{eqb, leb}
+use Rattle.recording.specs.declared.input.Filled.{Filled}
+use Rattle.recording.specs.declared.input.Filled.the-variants.{Bytes, Failed}
+use Rattle.recording.specs.Sizes.{leastLength, mostLength}
+
+-- at most so many bytes came
+abbrev pub Within : Filled → ℕ → Type 0
+Within (Bytes got) most = got ≤ most
+Within Failed most = Unit {0}
+
+-- Document 01, "The map": where a map with this length field ends. For one that no map has
+-- nothing is taken but the field itself.
+unfoldable pub mapEnd : ℕ → ℕ
+mapEnd length = cond (leb leastLength length && leb length mostLength && eqb (length % 3) 0) (2 + length) 2

@@ -1,0 +1,30 @@
+/*
+ * The words for document 01's numbers: what is wrong, and what to do. The programs and the library share them.
+ */
+#include "couplingnut.h"
+
+/* By number. Each says what is wrong; after the semicolon, what to do. */
+static const char *const messages[] = {
+    "done",
+    "the session is not sound; hand in the one that opening or the last call gave",
+    "the map's length, version or number of registers is wrong, or the input ended inside the map; make the map again, "
+    "and check that only the samples follow it",
+    "an entry of the map breaks a rule; correct its kind, mask or default, or what 0x0000 to 0x000F must be",
+    "a bank is not as long as the map has registers; lend two banks of as many bytes",
+    "a sample has one of bits 4 to 7 set, or there are more than 65,536 in a call; record the four lines on bits 0 to 3 "
+    "and clear the rest",
+    "the records need more room than was lent; lend six bytes for every three samples, and six more",
+    "the direction is above 1, or the settings number above 7; 0 writes and 1 reads, and settings are 1, 2 and 4, added",
+    "the count is not 1 to 1,000, or the data is not as long as it says; split the run, and give a read no data",
+    "the start address is above 0x7FFF; addresses have 15 bits",
+    "a single-instruction write has 0x0000 or 0x0001 anywhere but last; end the run with that byte, or write it on its own",
+    "the outgoing buffer is too short; lend 35 + 16 bytes for each byte of the run, or 3 + 48 with single instruction",
+};
+
+const char *couplingnut_message(uint32_t number)
+{
+    if (number >= sizeof messages / sizeof messages[0]) {
+        return "no call gives this number";
+    }
+    return messages[number];
+}
