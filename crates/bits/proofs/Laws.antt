@@ -6,7 +6,7 @@ use native.Mathlib.Omega.{arith}
 use native.Mathlib.Nat.{pow-suc, add-comm, div-eq-of-lt, div-lt-iff-lt-mul}
 use native.Mathlib.Numerals.{add-one}
 use borrow.Author.Tests.{eq-eqb, ne-eqb, ltb-true, ltb-false}
-use lib.Pow.{shl-exact, pow-pos, shr-shr}
+use lib.Pow.{shl-exact, pow-pos, shr-shr, field, mod-mod-pow}
 use mir.Val.{boolByte}
 use lib.Dec.{eqb, ltb}
 use lib.Bits.{bitAnd, bitOr, or-step, and-step, or-shifted, or-shifted-r}
@@ -120,3 +120,15 @@ merged-bit (suc w) o n m (suc i) h =
     ∙ ap (λ (k : ℕ). bitAt k i) (merged-half w o n m)
     ∙ merged-bit w (o / 2) (n / 2) (m / 2) i (omega arith)
     ∙ sym (rw (half-bit m i, half-bit n i, half-bit o i))
+
+-- the bits above place w, and those under it
+pub bit-above : (x w i : ℕ) → bitAt (x / 2 ^ w) i ≡ bitAt x (w + i)
+unfolding bitAt
+bit-above x w i = ap (λ (k : ℕ). eqb (k % 2) 1) (shr-shr x w i)
+
+pub bit-under : (x w i : ℕ) → i < w → bitAt (x % 2 ^ w) i ≡ bitAt x i
+unfolding bitAt
+bit-under x w i h =
+    let e : w ≡ w - 1 - i + 1 + i = omega arith in
+    ap (λ (k : ℕ). eqb (k % 2) 1) (ap (λ (k : ℕ). x % 2 ^ k / 2 ^ i) e ∙ field x (w - 1 - i + 1) i)
+    ∙ ap (λ (k : ℕ). eqb k 1) (mod-mod-pow (x / 2 ^ i) (w - 1 - i) 1)

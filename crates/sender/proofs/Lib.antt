@@ -1,2 +1,4 @@
 mod Parts
+mod Bits
+mod Nibble
 mod Answer

@@ -1,56 +1,19 @@
--- How the samples of a run come apart into those of its bits and bytes.
-use mathlib.Core.Path.{_≡_, refl, sym, _∙_, ap}
+-- How the samples of a run come apart into those of its bytes.
+use mathlib.Core.Path.{_≡_, refl, sym, _∙_}
 use mathlib.Core.Bool.{Bool, true, false, cond}
-use mathlib.Core.List.{List, [], _∷_, _++_, append-assoc}
-use Prim.Native.Nat.{ℕ, zero, suc, _+_, _-_, _*_, _<_, _≤_}
+use mathlib.Core.List.{List, [], _++_, append-assoc}
+use Prim.Native.Nat.{ℕ, _+_, _-_, _<_, _≤_}
 use native.Mathlib.Omega.{arith}
 use native.Mathlib.Numerals.{add-one}
 use lib.ListN.{length, getD, drop, getD-replicate, drop-of-length-le}
 use lib.Seq.{drop-cons}
-use Rattle.bits.specs.Bits.{bitAt}
-use Rattle.bits.specs.Buffer.{Put}
 use Rattle.bits.proofs.Putting.{Splits}
 use Rattle.settings.specs.Settings.{nextAddress}
 use Rattle.sender.specs.declared.Run.{Run}
 use Rattle.order.specs.Order.{Order, runFrom, sentOf}
-use Rattle.order.specs.Samples.{highFirst, lowFirst, bitsOf, instructionOf, byteBits, runBits, orderBits, clocked, samplesOf}
+use Rattle.order.specs.Samples.{bitsOf, instructionOf, byteBits, runBits, orderBits, clocked, samplesOf}
 use Rattle.sender.specs.Run.{runOf, openingSamples, byteSamples, runSamples, closingSamples}
-use Rattle.order.proofs.Laws.{clocked-append, length-bits, length-clocked, length-byte-bits, length-sent}
-
-low-bit : (j w x i : ℕ) → i < w → getD (lowFirst j w x) i false ≡ bitAt x (j + i)
-unfolding lowFirst
-low-bit j zero x i h = absurd (omega arith)
-low-bit j (suc w) x zero h = ap (bitAt x) (omega arith)
-low-bit j (suc w) x (suc i) h = low-bit (j + 1) w x i (omega arith) ∙ ap (bitAt x) (omega arith)
-
-high-bit : (w x i : ℕ) → i < w → getD (highFirst w x) i false ≡ bitAt x (w - 1 - i)
-unfolding highFirst
-high-bit zero x i h = absurd (omega arith)
-high-bit (suc w) x zero h = ap (bitAt x) (omega arith)
-high-bit (suc w) x (suc i) h = high-bit w x i (omega arith) ∙ ap (bitAt x) (omega arith)
-
--- of w bits, the one that travels as number i
-travelling-bit : (lsb : Bool) (w x i : ℕ) → i < w → getD (bitsOf lsb w x) i false ≡ bitAt x (cond lsb i (w - 1 - i))
-unfolding bitsOf
-travelling-bit true w x i h = low-bit 0 w x i h ∙ ap (bitAt x) (omega arith)
-travelling-bit false w x i h = high-bit w x i h
-
--- the samples of the bits from number i on are those of that bit, and of the bits after it
-pub next-bit : (lsb : Bool) (w x i : ℕ) → i < w
-    → Splits (clocked (drop i (bitsOf lsb w x))) (clocked (bitAt x (cond lsb i (w - 1 - i)) ∷ [])) (clocked (drop (i + 1) (bitsOf lsb w x)))
-unfolding clocked
-next-bit lsb w x i h =
-    let l : i < length (bitsOf lsb w x) = omega (arith, length-bits lsb w x) in
-    record { split = rw (add-one i, drop-cons (bitsOf lsb w x) i false l, travelling-bit lsb w x i h) }
-
-pub no-more-bits : (lsb : Bool) (w x i : ℕ) → w ≤ i → clocked (drop i (bitsOf lsb w x)) ≡ []
-unfolding clocked
-no-more-bits lsb w x i h =
-    let l : length (bitsOf lsb w x) ≤ i = omega (arith, length-bits lsb w x) in
-    ap clocked (drop-of-length-le (bitsOf lsb w x) l)
-
-pub after-bits : (lsb : Bool) (w x : ℕ) {old new : List ℕ} {at n : ℕ} → Put old at (clocked (bitsOf lsb w x)) n new → n ≡ at + 2 * w
-after-bits lsb w x p = p .next-place ∙ rw (length-clocked, length-bits)
+use Rattle.order.proofs.Laws.{clocked-append, length-clocked, length-byte-bits, length-sent}
 
 -- the samples of a byte: with single instruction its own instruction goes before it
 module _ (r : Run) (a v : ℕ) where

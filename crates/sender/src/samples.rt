@@ -1,51 +1,72 @@
 // The samples of a run, put into a buffer. Each function here gives the place after what it puts.
 ghost use mathlib.Core.Path.{_≡_};
 ghost use mathlib.Core.Bool.{cond, false};
-ghost use mathlib.Core.List.{[], _∷_};
-ghost use Prim.Native.Nat.{_+_, _-_, _*_, _<_, _≤_};
+ghost use Prim.Native.Nat.{_+_, _<_, _≤_};
 ghost use lib.ListN.{length, getD};
-ghost use Rattle.bits.specs.Bits.{bitAt};
 ghost use Rattle.bits.specs.Buffer.{Put};
 ghost use Rattle.order.specs.Order.{withData, sentOf};
-ghost use Rattle.order.specs.Samples.{bitsOf, clocked, instructionOf, samplesOf};
+ghost use Rattle.order.specs.Samples.{highFirst, bitsOf, clocked, instructionOf, samplesOf};
 ghost use Rattle.order.specs.Number.{sendNumber};
 ghost use Rattle.sender.specs.Run.{openingSamples, byteSamples, runSamples, closingSamples};
 use crate::Run;
 use crate::run_of;
+use card::in_order;
 use order::Order;
 use settings::next_address;
 
-// The place in a value of the bit that travels as number i of so many.
-fn place_of(lsb: bool, width: u8, i: u8) -> u8
-    requires { ⌜ i < width ⌝ }
-    ensures { λ r. ⌜ r ≡ cond lsb i (width - 1 - i) ⌝ }
-{
-    if lsb { i } else { width - 1 - i }
-}
+// Times a nibble: each of its bits in its place of two samples, one bit above SDIO.
+const SPREAD: u64 = 0x0808_0404_0202_0101;
 
-// Puts the two samples of bit i of x: its level with SCLK low, then with SCLK high.
-fn put_bit(x: u16, i: u8, out: &mut [u8], at: usize) -> usize
-    requires { ⌜ (i < 16) × (at + 2 ≤ length (now out)) ⌝ }
-    ensures { λ r. ⌜ Put (now (out .entry)) at (clocked (bitAt x i ∷ [])) r (now (out .exit)) ⌝ }
-{
-    let level = (x >> i) % 2 * 4;
-    out[at] = level as u8;
-    out[at + 1] = level as u8 + 2;
-    at + 2
-}
+// SDIO in each of eight samples.
+const LEVELS: u64 = 0x0404_0404_0404_0404;
 
-// Puts the samples of `width` bits of x, in the order in which they travel.
-fn put_bits(lsb: bool, width: u8, x: u16, out: &mut [u8], at: usize) -> usize
-    requires { ⌜ (width ≤ 16) × (at + 2 * width ≤ length (now out)) ⌝ }
-    ensures { λ r. ⌜ Put (now (out .entry)) at (clocked (bitsOf lsb width x)) r (now (out .exit)) ⌝ }
+// Four ones: SDIO high, and SCLK low and high in turn.
+const ONES: u64 = 0x0604_0604_0604_0604;
+
+// Puts the eight samples of a nibble, its highest bit first. They are made as one number, of
+// which the first sample is the lowest byte: the samples of four ones, less the level of SDIO where a bit is zero.
+fn put_nibble(x: u8, out: &mut [u8], at: usize) -> usize
+    requires { ⌜ (x < 16) × (at + 8 ≤ length (now out)) ⌝ }
+    ensures { λ r. ⌜ Put (now (out .entry)) at (clocked (highFirst 4 x)) r (now (out .exit)) ⌝ }
 {
+    let zeros = (((15 - x) as u64 * SPREAD) >> 1) & LEVELS;
+    let samples = ONES - zeros;
     let mut n = at;
     let mut i: u8 = 0;
-    while i < width {
-        n = put_bit(x, place_of(lsb, width, i), out, n);
+    while i < 8 {
+        out[n] = ((samples >> (8 * i)) % 256) as u8;
+        n += 1;
         i += 1;
     }
     n
+}
+
+// Puts the samples of a byte. Its bits go out highest first; where the lowest goes first, those of the turned byte.
+fn put_eight(lsb: bool, x: u8, out: &mut [u8], at: usize) -> usize
+    requires { ⌜ at + 16 ≤ length (now out) ⌝ }
+    ensures { λ r. ⌜ Put (now (out .entry)) at (clocked (bitsOf lsb 8 x)) r (now (out .exit)) ⌝ }
+{
+    let sent = in_order(lsb, x);
+    let n = put_nibble(sent / 16, out, at);
+    put_nibble(sent % 16, out, n)
+}
+
+// The one of two bytes that travels first.
+fn first_of(lsb: bool, high: u8, low: u8) -> u8
+    ensures { λ r. ⌜ r ≡ cond lsb low high ⌝ }
+{
+    if lsb { low } else { high }
+}
+
+// Puts the samples of sixteen bits: all of them are turned, so the two bytes change places too.
+fn put_sixteen(lsb: bool, x: u16, out: &mut [u8], at: usize) -> usize
+    requires { ⌜ at + 32 ≤ length (now out) ⌝ }
+    ensures { λ r. ⌜ Put (now (out .entry)) at (clocked (bitsOf lsb 16 x)) r (now (out .exit)) ⌝ }
+{
+    let high = (x / 256) as u8;
+    let low = (x % 256) as u8;
+    let n = put_eight(lsb, first_of(lsb, high, low), out, at);
+    put_eight(lsb, first_of(lsb, low, high), out, n)
 }
 
 // The instruction for an address: bit 15 is 1 for read.
@@ -62,10 +83,10 @@ fn put_byte(run: Run, address: u16, byte: u8, out: &mut [u8], at: usize) -> usiz
     ensures { λ r. ⌜ Put (now (out .entry)) at (byteSamples run address byte) r (now (out .exit)) ⌝ }
 {
     if run.single {
-        let n = put_bits(run.lsb, 16, instruction(run.read, address), out, at);
-        return put_bits(run.lsb, 8, byte as u16, out, n);
+        let n = put_sixteen(run.lsb, instruction(run.read, address), out, at);
+        return put_eight(run.lsb, byte, out, n);
     }
-    put_bits(run.lsb, 8, byte as u16, out, at)
+    put_eight(run.lsb, byte, out, at)
 }
 
 // What goes out in the data bits of byte i.
@@ -103,7 +124,7 @@ fn put_opening(run: Run, start: u16, out: &mut [u8]) -> usize
     if run.single {
         return 1;
     }
-    put_bits(run.lsb, 16, instruction(run.read, start), out, 1)
+    put_sixteen(run.lsb, instruction(run.read, start), out, 1)
 }
 
 // Puts the last two samples: SCLK low, and CSB high.

@@ -15,6 +15,7 @@ mod quiet;
 use crate::quiet::last_of;
 use crate::quiet::line_of;
 use crate::quiet::quiet;
+use card::in_order;
 use session::Event;
 use session::Session;
 use words::clocked;
@@ -69,16 +70,16 @@ fn byte_ahead(session: Session, samples: &[u8], from: usize) -> bool
     false
 }
 
-// The event of such a byte.
+// The event of such a byte: gathered highest bit first, and turned by the card where it travels the other way.
 fn byte_event(session: Session, samples: &[u8], from: usize) -> Event
     requires { ⌜ ByteAhead (now samples) session from ⌝ }
     ensures { λ r. ⌜ r ≡ Whole (session .read) (session .address) (gathered (now (samples .entry)) (lineOf session) (session .used .lsb) from 8) ⌝ }
 {
-    let byte = gather(samples, from, line_of(session), session.used.lsb, 8);
+    let byte = gather(samples, from, line_of(session), false, 8) as u8;
     Event::Whole {
         read: session.read,
         address: session.address,
-        byte: byte as u8,
+        byte: in_order(session.used.lsb, byte),
     }
 }
 

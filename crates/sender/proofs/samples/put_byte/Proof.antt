@@ -1,7 +1,8 @@
 -- `put_byte` meets its contract: its instruction and its data bits one after the other, or the data bits alone.
 use native.Mathlib.Omega.{arith}
 use Rattle.bits.proofs.Putting.{put-both}
-use Rattle.sender.proofs.Parts.{after-bits, byte-single, byte-streaming, length-single, length-streaming}
+use Rattle.sender.proofs.Bits.{after-bits}
+use Rattle.sender.proofs.Parts.{byte-single, byte-streaming, length-single, length-streaming}
 use borrow.Author.Needs.{needs}
 use Rattle.sender.proofs.samples.put_byte.Statement.{statement}
 use Rattle.sender.proofs.samples.put_byte.Tie as tie
@@ -9,17 +10,17 @@ use Rattle.sender.proofs.samples.put_byte.Tie as tie
 instruction-requires : tie.Need-instruction-requires
 instruction-requires c κs = search needs
 
-put-bits-requires : tie.Need-put-bits-requires
-put-bits-requires c κs =
+put-sixteen-requires : tie.Need-put-sixteen-requires
+put-sixteen-requires c κs =
     let a = c .before .before .before .before .args in
     omega (arith, length-single (a .run) (a .address) (a .byte) (c .before .before .if1 .taken))
 
-put-bits-requires-2 : tie.Need-put-bits-requires-2
-put-bits-requires-2 c κs =
+put-eight-requires : tie.Need-put-eight-requires
+put-eight-requires c κs =
     let p = c .before .before .before in
     let a = p .before .before .before .before .before .args in
-    let first = after-bits (a .run .lsb) 16 (p .before .before .instruction .result) (p .put-bits .ensures) in
-    omega (arith, length-single (a .run) (a .address) (a .byte) (p .before .before .before .if1 .taken), p .put-bits .kept .1 .1 .1 .0)
+    let first = after-bits (a .run .lsb) 16 (p .before .before .instruction .result) (p .put-sixteen .ensures) in
+    omega (arith, length-single (a .run) (a .address) (a .byte) (p .before .before .before .if1 .taken), p .put-sixteen .kept .1 .1 .0)
 
 same-length : tie.Need-same-length
 same-length c = search needs
@@ -29,10 +30,10 @@ returns c =
     let p = c .before .before .before .before .before .before in
     let a = p .before .before .before .before .before .args in
     rw (byte-single (a .run) (a .address) (a .byte) (p .before .before .before .if1 .taken), ← p .before .before .instruction .ensures)
-    (put-both (p .put-bits .ensures) (c .before .before .put-bits2 .ensures))
+    (put-both (p .put-sixteen .ensures) (c .before .before .put-eight .ensures))
 
-put-bits-requires-3 : tie.Need-put-bits-requires-3
-put-bits-requires-3 c κs =
+put-eight-requires-2 : tie.Need-put-eight-requires-2
+put-eight-requires-2 c κs =
     let a = c .before .before .before .args in
     omega (arith, length-streaming (a .run) (a .address) (a .byte) (c .before .if1 .left))
 
@@ -43,17 +44,17 @@ returns-2 : tie.Need-returns-2
 returns-2 c =
     let p = c .before .before .before .before in
     let a = p .before .before .args in
-    rw (byte-streaming (a .run) (a .address) (a .byte) (p .if1 .left)) (c .before .before .put-bits3 .ensures)
+    rw (byte-streaming (a .run) (a .address) (a .byte) (p .if1 .left)) (c .before .before .put-eight2 .ensures)
 
 pub put-byte-spec : {M : Type 1} → statement M
 put-byte-spec =
     tie.close
     (tie.spec
     instruction-requires
-    put-bits-requires
-    put-bits-requires-2
+    put-sixteen-requires
+    put-eight-requires
     same-length
     returns
-    put-bits-requires-3
+    put-eight-requires-2
     same-length-2
     returns-2)

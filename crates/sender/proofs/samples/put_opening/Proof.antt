@@ -23,22 +23,22 @@ returns c = rw (c .if1 .taken) (record { next-place = refl; buffer = refl })
 instruction-requires : tie.Need-instruction-requires
 instruction-requires c κs = search needs
 
-put-bits-requires : tie.Need-put-bits-requires
-put-bits-requires c κs =
+put-sixteen-requires : tie.Need-put-sixteen-requires
+put-sixteen-requires c κs =
     let p = c .before .before in
     let a = p .before .before .args in
     let room = rw (p .if1 .left) at (p .before .before .pre .1) in
     let bits : length (clocked (bitsOf (a .run .lsb) 16 (instructionOf (a .run .read) (a .start)))) ≡ 32 = simp (length-clocked, length-bits) in
-    (omega arith, simp length-set (omega arith))
+    simp length-set (omega arith)
 
 same-length-2 : tie.Need-same-length-2
-same-length-2 c = c .before .before .put-bits .kept .1 .1 .1 .0 ∙ simp length-set
+same-length-2 c = c .before .before .put-sixteen .kept .1 .1 .0 ∙ simp length-set
 
 returns-2 : tie.Need-returns-2
 returns-2 c =
     let p = c .before .before .before .before in
     rw (p .before .if1 .left, ← p .instruction .ensures)
-    (put-both {xs = 0x00 ∷ []} (record { next-place = refl; buffer = refl }) (c .before .before .put-bits .ensures))
+    (put-both {xs = 0x00 ∷ []} (record { next-place = refl; buffer = refl }) (c .before .before .put-sixteen .ensures))
 
 pub put-opening-spec : {M : Type 1} → statement M
 put-opening-spec =
@@ -48,6 +48,6 @@ put-opening-spec =
     same-length
     returns
     instruction-requires
-    put-bits-requires
+    put-sixteen-requires
     same-length-2
     returns-2)

@@ -1,0 +1,17 @@
+-- `card::in_order` meets its contract: the card turns, or nothing is done.
+use Rattle.bits.proofs.Cases.{yes}
+use borrow.Author.Needs.{needs}
+use Rattle.card.proofs.in_order.Statement.{statement}
+use Rattle.card.proofs.in_order.Tie as tie
+
+turn-requires : tie.Need-turn-requires
+turn-requires c κs = search needs
+
+returns : tie.Need-returns
+returns c = yes _ (c .before .if1 .taken) (c .turn .ensures)
+
+returns-2 : tie.Need-returns-2
+returns-2 c = search needs
+
+pub in-order-spec : {M : Type 1} → statement M
+in-order-spec = tie.close (tie.spec turn-requires returns returns-2)
