@@ -26,7 +26,7 @@ impl Book<'_> {
         match self.entry(address) {
             Some(&[2, mask, _]) => self.active[address] = masked(self.active[address], mask),
             Some(&[3, mask, _]) => self.buffer[address] = masked(self.buffer[address], mask),
-            Some(&[4, ..]) if address == 0x0000 && (v >= 0x80 || v % 2 == 1) => self.reset(),
+            Some(&[4, ..]) if address == 0x0000 && v % 2 == 1 && is_mirror(v) => self.reset(),
             Some(&[4, ..]) if address == 0x000F && v % 2 == 1 => self.transfer(),
             _ => {}
         }
@@ -47,6 +47,11 @@ impl Book<'_> {
             }
         }
     }
+}
+
+/// Whether bit i is bit 7 less i, for each i.
+fn is_mirror(v: u8) -> bool {
+    (0..4).all(|i| v >> i & 1 == v >> (7 - i) & 1)
 }
 
 /// The banks after the order's bytes that are whole when s samples were sent.

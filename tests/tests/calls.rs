@@ -100,6 +100,8 @@ fn with_contents(random: &mut Random, session: Session) -> Session {
     let value = random.below(1 << session.bits) as u16;
     let address = match session.phase {
         Phase::Data if random.one_in(8) => random.pick(&[0x7FFF, 0x7FFE, 0x4000, 0x0017, 0x0018]),
+        // Few of the bytes that arrive here are their own mirrors.
+        Phase::Data if random.one_in(3) => 0x0000,
         Phase::Data => random.below(26) as u16,
         _ => 0,
     };

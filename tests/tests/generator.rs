@@ -75,6 +75,17 @@ fn maps_of_every_size_are_reached() {
     assert!(counts.range(17..100).count() >= 40 && counts.range(1_000..8_192).count() >= 10);
 }
 
+/// A byte that is not its own mirror, at 0x0000: with no setting on, and with some.
+#[test]
+fn halves_of_0x0000_that_disagree_are_reached() {
+    let mut readings = BTreeSet::new();
+    for (_, text) in reports() {
+        let nothing = text.lines().filter(|line| line.starts_with("W 0000") && line.ends_with('0'));
+        readings.extend(nothing.map(|line| line[10..12].to_string()));
+    }
+    assert_eq!(readings.len(), 8, "{readings:?}");
+}
+
 /// Settings are seen by the control readings: each alone, and several at once.
 #[test]
 fn settings_change_on_the_way() {

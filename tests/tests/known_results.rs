@@ -108,9 +108,10 @@ fn a_write_cut_off() {
     }
 }
 
+/// The case of 0x40 as Ask 2 of document 02 has it.
 #[test]
 fn writes_to_0x0000() {
-    for (v, line) in [(0x40, "W 0000 40 42 3"), (0x81, "W 0000 81 00 5")] {
+    for (v, line) in [(0x40, "W 0000 40 00 0"), (0x81, "W 0000 81 00 5")] {
         let samples = write_of(0x0000, &[v]);
         assert_text(&simple_map(16), &samples, &format!("map 16\n{line}\nrecords 1 samples 51\n"));
     }

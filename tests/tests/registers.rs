@@ -61,31 +61,129 @@ fn blank_read_only_and_absent_registers_take_nothing() {
     }
 }
 
+/// The bytes that read the same from both ends.
+const MIRRORS: [u8; 16] = [
+    0b0000_0000,
+    0b0001_1000,
+    0b0010_0100,
+    0b0011_1100,
+    0b0100_0010,
+    0b0101_1010,
+    0b0110_0110,
+    0b0111_1110,
+    0b1000_0001,
+    0b1001_1001,
+    0b1010_0101,
+    0b1011_1101,
+    0b1100_0011,
+    0b1101_1011,
+    0b1110_0111,
+    0b1111_1111,
+];
+
+/// The settings that 0x0000 and 0x0001 hold when they read so.
+fn settings_read_as(a: u8, b: u8) -> Settings {
+    let named = [
+        (bit(a, 6), Settings::LSB_FIRST),
+        (bit(a, 5), Settings::ASCENDING),
+        (bit(a, 4), Settings::SDO_ACTIVE),
+        (bit(b, 7), Settings::SINGLE_INSTRUCTION),
+        (bit(b, 5), Settings::BUFFER_READBACK),
+        (bit(b, 4), Settings::SLOW),
+    ];
+    let set = named.into_iter().filter(|(is_set, _)| *is_set);
+    set.fold(Settings::NONE, |sum, (_, one)| sum.with(one))
+}
+
+/// Readings of 0x0000 and 0x0001, one pair for each combination of settings.
+fn every_pair_of_readings() -> impl Iterator<Item = (u8, u8)> {
+    let b = [0x00, 0x10, 0x20, 0x30, 0x80, 0x90, 0xA0, 0xB0];
+    MIRRORS[..8].iter().flat_map(move |&a| b.map(|b| (a, b)))
+}
+
+/// All bytes from every combination of settings, with banks that a reset changes.
 #[test]
 fn every_byte_written_to_0x0000() {
-    let all = [0x00, 0x42, 0x24, 0x18, 0x7E];
-    for (v, first) in (0..=255).flat_map(|v| all.map(|first| (v, first))) {
-        let mut map = simple_map(17);
-        set_entry(&mut map, 0x0010, [3, 0xFF, 0x11]);
-        let mut chip = Chip::opened(&map);
-        let fresh = chip.clone();
-        chip.write(0x0001, &[0x30]);
-        chip.write(0x0000, &[first]);
-        chip.write(0x0010, &[0x22]);
-        chip.write(0x000A, &[0x33]);
-        let before = chip.clone();
-
-        let pair = |high, low| if bit(v, high) || bit(v, low) { 1 << high | 1 << low } else { 0 };
-        let reading = pair(6, 1) | pair(5, 2) | pair(4, 3);
-        let reset = bit(v, 7) || bit(v, 0);
-        let effect = if reset { 5 } else { 3 };
-        let lines = chip.write(0x0000, &[v]);
-        assert_eq!(lines, [format!("W 0000 {v:02X} {reading:02X} {effect}")]);
-        assert_eq!(chip.due(0x0000), reading);
-        assert_eq!(chip.due(0x0001), if reset { 0x00 } else { 0x30 });
-        let banks = if reset { &fresh } else { &before };
-        assert_eq!((&chip.active, &chip.buffer), (&banks.active, &banks.buffer));
+    let mut map = simple_map(17);
+    set_entry(&mut map, 0x0010, [3, 0xFF, 0x11]);
+    let fresh = Chip::opened(&map);
+    for (a, b) in every_pair_of_readings() {
+        let mut before = fresh.clone();
+        before.session.settings = settings_read_as(a, b);
+        before.active = (100..117).collect();
+        before.buffer = (200..217).collect();
+        for v in 0..=255 {
+            let mut chip = before.clone();
+            let lines = chip.write(0x0000, &[v]);
+            let mut expected = before.clone();
+            let (reading, effect) = match (MIRRORS.contains(&v), bit(v, 7)) {
+                (false, _) => (a, 0),
+                (true, false) => (v, 3),
+                (true, true) => (v - 0x81, 5),
+            };
+            match effect {
+                0 => {}
+                3 => expected.session.settings = settings_read_as(v, b),
+                _ => {
+                    expected = fresh.clone();
+                    expected.session.settings = settings_read_as(v, 0x00);
+                }
+            }
+            let from = format!("{v:#04X} after {a:#04X} and {b:#04X}");
+            assert_eq!(lines, [format!("W 0000 {v:02X} {reading:02X} {effect}")], "{from}");
+            assert_eq!(chip, expected, "{from}");
+        }
     }
+}
+
+/// What 0x0000 and 0x0001 hold is what they read, from every combination.
+#[test]
+fn the_configuration_registers_read_as_the_settings() {
+    for (a, b) in every_pair_of_readings() {
+        let mut chip = Chip::opened(&simple_map(16));
+        chip.session.settings = settings_read_as(a, b);
+        assert_eq!((chip.due(0x0000), chip.due(0x0001)), (a, b));
+    }
+}
+
+/// Ask 2 of document 02: halves that disagree change nothing, also where the
+/// byte names settings that are set, or half a reset.
+#[test]
+fn halves_of_0x0000_that_disagree_change_nothing() {
+    let mut chip = Chip::opened(&simple_map(16));
+    assert_eq!(chip.write(0x0000, &[0x40]), ["W 0000 40 00 0"]);
+    chip.write(0x000A, &[0x33]);
+    chip.write(0x0001, &[0x20]);
+    assert_eq!(chip.write(0x0000, &[0x42]), ["W 0000 42 42 3"]);
+    let before = chip.clone();
+    for (v, line) in [
+        (0x40, "W 0000 40 42 0"),
+        (0x02, "W 0000 02 42 0"),
+        (0x80, "W 0000 80 42 0"),
+        (0x01, "W 0000 01 42 0"),
+        (0xC1, "W 0000 C1 42 0"),
+        (0x83, "W 0000 83 42 0"),
+        (0x41, "W 0000 41 42 0"),
+    ] {
+        assert_eq!(chip.write(0x0000, &[v]), [line]);
+        assert_eq!(chip, before);
+    }
+    assert_eq!(chip.write(0x0000, &[0xC3]), ["W 0000 C3 42 5"]);
+    assert_eq!(chip.active[0x000A], 0x00);
+    assert_eq!(chip.session.settings, Settings::LSB_FIRST);
+}
+
+/// In single instruction the next instruction takes the settings as they stand.
+#[test]
+fn a_half_written_on_the_way_leaves_the_bit_order() {
+    let mut chip = Chip::opened(&simple_map(16));
+    chip.write(0x0001, &[0x80]);
+    let inner = |start, v: u8| {
+        let samples = sent(&Order { direction: 0, settings: 4, start, count: 1, data: &[v] });
+        samples[1..samples.len() - 2].to_vec()
+    };
+    let frame = [vec![0x00], inner(0x0000, 0x40), inner(0x000A, 0x35), vec![0x01]].concat();
+    assert_eq!(chip.read(&frame), ["W 0000 40 00 0", "W 000A 35 35 1"]);
 }
 
 #[test]

@@ -116,6 +116,11 @@ fn single_instruction_configures_only_last() {
             assert_eq!(number(&order, 1_000), expected, "{order:?}");
         }
     }
+    // By the address alone, also where the byte would do nothing there.
+    for v in [0x00, 0x40, 0x42] {
+        let order = Order { direction: 0, settings: 4, start: 0x0000, count: 2, data: &[v, 0] };
+        assert_eq!(number(&order, 1_000), 10, "{v:#04X}");
+    }
     // Far along a long run too, but not as its last byte.
     let long = [0; 1_000];
     for (start, expected) in [(998, 10), (999, 10), (1_000, 0), (1_001, 0)] {

@@ -1,6 +1,5 @@
 // Single bits of bytes and of the values that travel on the bus.
 ghost use mathlib.Core.Path.{_≡_};
-ghost use mathlib.Core.Bool.{_||_};
 ghost use Prim.Native.Nat.{_^_, _<_};
 ghost use Rattle.bits.specs.Bits.{bitAt, merged, shiftedIn};
 
@@ -10,14 +9,6 @@ pub fn bit_at(x: u8, i: u8) -> bool
     ensures { λ r. ⌜ r ≡ bitAt x i ⌝ }
 {
     (x >> i) % 2 == 1
-}
-
-// Whether bit i or bit j of x is one.
-pub fn either_bit(x: u8, i: u8, j: u8) -> bool
-    requires { ⌜ (i < 8) × (j < 8) ⌝ }
-    ensures { λ r. ⌜ r ≡ (bitAt x i || bitAt x j) ⌝ }
-{
-    bit_at(x, i) | bit_at(x, j)
 }
 
 // The bits of new where mask has ones, and those of old elsewhere.

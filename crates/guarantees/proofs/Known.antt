@@ -6,6 +6,7 @@ use Prim.Native.Nat.{ℕ, _+_, _*_}
 use lib.ListN.{length}
 use Rattle.bits.specs.Bits.{bitAt, merged}
 use Rattle.bits.specs.Tests.{every}
+use Rattle.card.specs.Card.{turned, isMirror}
 use Rattle.regmap.specs.Format.{lengthOf, countOf, entryAt}
 use Rattle.maptest.specs.MapTest.{kindRule, placeRule, entryGood, entriesGood, mapNumber}
 use Rattle.maptest.proofs.Laws.{good-length, good-form}
@@ -31,7 +32,7 @@ lengths-of : (n : ℕ) (m : List ℕ) → mapNumber m ≡ 0 → countOf m ≡ n 
 lengths-of n m good e = (good-length m good ∙ ap (λ (k : ℕ). 3 + 3 * k) e, good-form m good ∙ ap (λ (k : ℕ). 5 + 3 * k) e)
 
 pub known-results : KnownResults
-unfolding bitAt merged every countOf entryAt kindRule placeRule entryGood entriesGood mapNumber
+unfolding bitAt merged every turned isMirror countOf entryAt kindRule placeRule entryGood entriesGood mapNumber
     settingsAfter controlReading withInstructionBit withDataBit stepOf bitEvent abortEvent eventOf
     defaultsFrom defaultBanks transferFrom transferred controlEffect effectOf applied writeBanks writtenBy dueByte recordOf banksAfter runOf recordsOf
     runFrom highFirst lowFirst bitsOf byteBits runBits orderBits clocked samplesOf allSamples configuresEarly sendNumber

@@ -93,8 +93,8 @@ pub record KnownResults : Type 0 where
   pub stopped-31 : recordsAfterOpening map16 (stoppedSamples (writeOne 0 0x000A 0x3C) 31 0x01) ≡ 3 ∷ 0x00 ∷ 0x00 ∷ 0x0F ∷ 0x00 ∷ 0 ∷ []
   pub stopped-33 : recordsAfterOpening map16 (stoppedSamples (writeOne 0 0x000A 0x3C) 33 0x01) ≡ []
   pub stopped-49 : recordsAfterOpening map16 (stoppedSamples (writeOne 0 0x000A 0x3C) 49 0x01) ≡ 1 ∷ 0x00 ∷ 0x0A ∷ 0x3C ∷ 0x3C ∷ 1 ∷ []
-  -- 0x40 to 0x0000, and 0x81
-  pub control-40 : recordsAfterOpening map16 (samplesOf (writeOne 0 0x0000 0x40)) ≡ 1 ∷ 0x00 ∷ 0x00 ∷ 0x40 ∷ 0x42 ∷ 3 ∷ []
+  -- 0x40 to 0x0000, which is not its own mirror (document 02, Ask 2), and 0x81, which is
+  pub control-40 : recordsAfterOpening map16 (samplesOf (writeOne 0 0x0000 0x40)) ≡ 1 ∷ 0x00 ∷ 0x00 ∷ 0x40 ∷ 0x00 ∷ 0 ∷ []
   pub control-81 : recordsAfterOpening map16 (samplesOf (writeOne 0 0x0000 0x81)) ≡ 1 ∷ 0x00 ∷ 0x00 ∷ 0x81 ∷ 0x00 ∷ 5 ∷ []
   -- descending from 0x0000, ascending from 0x7FFF
   pub wrap-down : nextAddress false 0x0000 ≡ 0x7FFF

@@ -1,8 +1,9 @@
 -- The settings: which way the address goes, what a write to a control register makes of them, and what those registers read as.
 use Prim.Native.Nat.{ℕ, _+_, _*_, _%_}
-use mathlib.Core.Bool.{Bool, false, cond, _||_}
+use mathlib.Core.Bool.{Bool, false, cond}
 use lib.Dec.{eqb}
 use Rattle.bits.specs.Bits.{bitAt, bitOf}
+use Rattle.card.specs.Card.{isMirror}
 use Rattle.settings.specs.declared.Settings.{Settings}
 use Rattle.settings.specs.declared.InUse.{InUse}
 
@@ -14,16 +15,17 @@ inUseOf t = record { lsb = t .lsb; ascending = t .ascending; sdo = t .sdo; singl
 abbrev pub nextAddress : Bool → ℕ → ℕ
 nextAddress ascending a = cond ascending ((a + 1) % 0x8000) ((a + 0x7FFF) % 0x8000)
 
--- Document 01, "What a whole byte does", 0x0000: bit 7 or 0 of the byte asks for a soft reset.
+-- Document 01, "What a whole byte does", 0x0000. Document 02, Ask 2: only a byte that is its own mirror takes effect, so that one bit
+-- of a pair tells the other. Bit 7 asks for a soft reset.
 abbrev pub resets : ℕ → Bool
-resets v = bitAt v 7 || bitAt v 0
+resets v = bitAt v 7
 
--- 0x0000: three settings are taken from the byte; a soft reset clears the other three.
+-- three settings are taken from such a byte; a soft reset clears the other three
 abbrev pub configured : Settings → ℕ → Settings
 configured t v = record {
-  lsb = bitAt v 6 || bitAt v 1;
-  ascending = bitAt v 5 || bitAt v 2;
-  sdo = bitAt v 4 || bitAt v 3;
+  lsb = bitAt v 6;
+  ascending = bitAt v 5;
+  sdo = bitAt v 4;
   single = cond (resets v) false (t .single);
   readback = cond (resets v) false (t .readback);
   slow = cond (resets v) false (t .slow);
@@ -42,7 +44,10 @@ configuredB t v = record {
 
 -- the settings after v is written to an address
 unfoldable pub settingsAfter : Settings → ℕ → ℕ → Settings
-settingsAfter t address v = cond (eqb address 0x0000) (configured t v) (cond (eqb address 0x0001) (configuredB t v) t)
+settingsAfter t address v =
+    cond (eqb address 0x0000) (cond (isMirror v) (configured t v) t)
+    (cond (eqb address 0x0001) (configuredB t v)
+    t)
 
 -- What a control register reads as: 0x0000 the settings on both bits of each pair; 0x0001 its three bits; 0x000F zero.
 unfoldable pub controlReading : Settings → ℕ → ℕ

@@ -5,13 +5,13 @@ ghost use Rattle.bits.specs.Bits.{bitOf};
 ghost use Rattle.settings.specs.Settings.{settingsAfter, controlReading, resets};
 use crate::Settings;
 use bits::bit_at;
-use bits::either_bit;
+use card::is_mirror;
 
-// Whether a byte written to 0x0000 asks for a soft reset.
+// Whether a byte that takes effect at 0x0000 asks for a soft reset.
 pub fn asks_reset(v: u8) -> bool
     ensures { λ r. ⌜ r ≡ resets v ⌝ }
 {
-    either_bit(v, 7, 0)
+    bit_at(v, 7)
 }
 
 // The mask where a setting is on, else 0.
@@ -22,14 +22,17 @@ fn flag(on: bool, mask: u8) -> u8
 }
 
 impl Settings {
-    // The settings after v is written to an address.
+    // The settings after v is written to an address. At 0x0000 a byte that is not its own mirror changes none.
     pub fn after(mut self, address: u16, v: u8) -> Settings
         ensures { λ r. ⌜ r ≡ settingsAfter self address v ⌝ }
     {
         if address == 0x0000 {
-            self.lsb = either_bit(v, 6, 1);
-            self.ascending = either_bit(v, 5, 2);
-            self.sdo = either_bit(v, 4, 3);
+            if !is_mirror(v) {
+                return self;
+            }
+            self.lsb = bit_at(v, 6);
+            self.ascending = bit_at(v, 5);
+            self.sdo = bit_at(v, 4);
             if asks_reset(v) {
                 self.single = false;
                 self.readback = false;

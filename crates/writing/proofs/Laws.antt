@@ -4,31 +4,29 @@ use mathlib.Core.Bool.{Bool, true, false, cond, _&&_, false≢true}
 use mathlib.Core.List.{List}
 use Prim.Native.Nat.{ℕ, _<_}
 use native.Mathlib.Omega.{arith}
-use borrow.Author.Tests.{eqb-true}
+use borrow.Author.Tests.{eqb-true, eq-eqb, ne-eqb}
 use lib.ListN.{length, length-set}
 use lib.Dec.{eqb}
 use Rattle.bits.specs.Bits.{bitAt}
-use Rattle.bits.proofs.Cases.{each, and-left, and-right}
+use Rattle.bits.proofs.Cases.{yes, no, each, and-left, and-right}
 use Rattle.regmap.specs.declared.Entry.{Entry}
 use Rattle.regmap.specs.Format.{registerAt, plain, buffered, control}
+use Rattle.card.specs.Card.{isMirror}
 use Rattle.settings.specs.Settings.{resets}
 use Rattle.registers.specs.Banks.{Banks, Mapped}
 use Rattle.registers.proofs.Laws.{mapped-defaults, mapped-transfer, in-banks}
 use Rattle.writing.specs.declared.Stages.{Stages}
 use Rattle.writing.specs.declared.Effect.{Effect}
-use Rattle.writing.specs.declared.Effect.the-variants.{Nothing, Active, Buffer, Control, Transfer, Reset}
-use Rattle.writing.specs.Effect.{controlEffect, effectOf}
+use Rattle.writing.specs.declared.Effect.the-variants.{Nothing, Active, Buffer, Control, Transfer, Reset, Ignored}
+use Rattle.writing.specs.Effect.{configurationEffect, controlEffect, effectOf}
 use Rattle.writing.specs.Write.{effectAt, applied, onByte, writeBanks}
 
 -- ---- the effect on a control register, by what the code looked at
 
 module _ (a v : ℕ) where
-  pub resets-at : {asks : Bool} → asks ≡ resets v → (eqb a 0x0000 && asks) ≡ true → Reset ≡ controlEffect a v
+  pub configures-at : {e : Effect} → e ≡ configurationEffect v → a ≡ 0x0000 → e ≡ controlEffect a v
   unfolding controlEffect
-  resets-at {asks} e t =
-      let at : eqb a 0x0000 ≡ true = and-left _ asks t in
-      let yes : resets v ≡ true = sym e ∙ and-right (eqb a 0x0000) asks t in
-      rw (at, yes)
+  configures-at e at = yes _ (eq-eqb a 0x0000 at) e
 
   pub transfers-at : {asks : Bool} → asks ≡ bitAt v 0 → (eqb a 0x000F && asks) ≡ true → Transfer ≡ controlEffect a v
   unfolding controlEffect
@@ -37,23 +35,19 @@ module _ (a v : ℕ) where
       let yes : bitAt v 0 ≡ true = sym e ∙ and-right (eqb a 0x000F) asks t in
       rw (at, yes)
 
-  pub neither-at : {x y : Bool} → x ≡ resets v → (eqb a 0x0000 && x) ≡ false → y ≡ bitAt v 0 → (eqb a 0x000F && y) ≡ false
-      → Control ≡ controlEffect a v
+  pub neither-at : {asks : Bool} → (a ≡ 0x0000 → ⊥) → asks ≡ bitAt v 0 → (eqb a 0x000F && asks) ≡ false → Control ≡ controlEffect a v
   unfolding controlEffect
-  neither-at e f g h =
-      neither (eqb a 0x0000) (resets v) (eqb a 0x000F) (bitAt v 0) (rw e at f) (rw g at h)
+  neither-at n e f = no _ (ne-eqb a 0x0000 n) (neither (eqb a 0x000F) (bitAt v 0) (rw e at f))
     where
-      neither : (x y z w : Bool) → (x && y) ≡ false → (z && w) ≡ false
-          → Control ≡ cond x (cond y Reset Control) (cond z (cond w Transfer Control) Control)
-      neither true y z w p q = rw p
-      neither false y true w p q = rw q
-      neither false y false w p q = refl
+      neither : (z w : Bool) → (z && w) ≡ false → Control ≡ cond z (cond w Transfer Control) Control
+      neither true w q = rw q
+      neither false w q = refl
 
   -- no effect on a control register is on a byte
   pub control-apart : onByte (controlEffect a v) ≡ false
   unfolding controlEffect
   control-apart =
-      each Apart (eqb a 0x0000) (λ e. each Apart (resets v) (λ e. refl) (λ e. refl))
+      each Apart (eqb a 0x0000) (λ e. each Apart (isMirror v) (λ e. each Apart (resets v) (λ e. refl) (λ e. refl)) (λ e. refl))
       (λ e. each Apart (eqb a 0x000F) (λ e. each Apart (bitAt v 0) (λ e. refl) (λ e. refl)) (λ e. refl))
     where
       Apart : Effect → Type 0
@@ -83,6 +77,7 @@ module _ {m : List ℕ} {b : Banks} (h : Mapped m b) where
   mapped-applied a Control = h
   mapped-applied a Transfer = mapped-transfer h
   mapped-applied a Reset = mapped-defaults m
+  mapped-applied a Ignored = h
 
   pub mapped-write : (a v : ℕ) → Mapped m (writeBanks m b a v)
   unfolding writeBanks

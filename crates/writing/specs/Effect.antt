@@ -5,15 +5,20 @@ use lib.Dec.{eqb}
 use Rattle.bits.specs.Bits.{bitAt, merged}
 use Rattle.regmap.specs.declared.Entry.{Entry}
 use Rattle.regmap.specs.Format.{plain, buffered, control}
+use Rattle.card.specs.Card.{isMirror}
 use Rattle.settings.specs.Settings.{resets}
 use Rattle.writing.specs.declared.Stages.{Stages}
 use Rattle.writing.specs.declared.Effect.{Effect}
-use Rattle.writing.specs.declared.Effect.the-variants.{Nothing, Active, Buffer, Control, Transfer, Reset}
+use Rattle.writing.specs.declared.Effect.the-variants.{Nothing, Active, Buffer, Control, Transfer, Reset, Ignored}
 
--- a control register: at 0x0000 a soft reset if the byte asks for it, at 0x000F a transfer if bit 0 is set
+-- 0x0000: a soft reset if the byte asks for it. Document 02, Ask 2: a byte that is not its own mirror is ignored.
+abbrev pub configurationEffect : ℕ → Effect
+configurationEffect v = cond (isMirror v) (cond (resets v) Reset Control) Ignored
+
+-- a control register: at 0x0000 as above, at 0x000F a transfer if bit 0 is set
 unfoldable pub controlEffect : ℕ → ℕ → Effect
 controlEffect a v =
-    cond (eqb a 0x0000) (cond (resets v) Reset Control)
+    cond (eqb a 0x0000) (configurationEffect v)
     (cond (eqb a 0x000F) (cond (bitAt v 0) Transfer Control)
     Control)
 

@@ -10,7 +10,7 @@ use Rattle.settings.specs.Settings.{settingsAfter, controlReading}
 use Rattle.registers.specs.Banks.{Banks, banks, defaultBanks, transferred}
 use Rattle.writing.specs.declared.Stages.{Stages}
 use Rattle.writing.specs.declared.Effect.{Effect}
-use Rattle.writing.specs.declared.Effect.the-variants.{Nothing, Active, Buffer, Control, Transfer, Reset}
+use Rattle.writing.specs.declared.Effect.the-variants.{Nothing, Active, Buffer, Control, Transfer, Reset, Ignored}
 use Rattle.writing.specs.declared.Written.{Written}
 use Rattle.writing.specs.Effect.{effectOf}
 
@@ -30,6 +30,7 @@ applied m b a (Buffer byte) = banks (b .active) (set (b .buffer) a byte)
 applied m b a Control = b
 applied m b a Transfer = transferred m b
 applied m b a Reset = defaultBanks m
+applied m b a Ignored = b
 
 -- the banks after a write
 unfoldable pub writeBanks : List ℕ → Banks → ℕ → ℕ → Banks
@@ -43,7 +44,7 @@ abbrev pub controlWritten : Settings → ℕ → ℕ → ℕ → Written
 controlWritten t a v effect = written (controlReading (settingsAfter t a v) a) effect
 
 -- What a write answers: the byte of the stage written, or the control reading, afterwards, and the number of its effect; 0 with
--- effect 0.
+-- effect 0. Document 02, Ask 2: a byte that is ignored has effect 0 too, with the unchanged reading.
 unfoldable pub writtenBy : Settings → ℕ → ℕ → Effect → Written
 writtenBy t a v Nothing = written 0 0
 writtenBy t a v (Active byte) = written byte 1
@@ -51,6 +52,7 @@ writtenBy t a v (Buffer byte) = written byte 2
 writtenBy t a v Control = controlWritten t a v 3
 writtenBy t a v Transfer = controlWritten t a v 4
 writtenBy t a v Reset = controlWritten t a v 5
+writtenBy t a v Ignored = written (controlReading t a) 0
 
 abbrev pub writtenOf : List ℕ → Banks → Settings → ℕ → ℕ → Written
 writtenOf m b t a v = writtenBy t a v (effectAt m b a v)
@@ -68,3 +70,4 @@ onByte (Buffer byte) = true
 onByte Control = false
 onByte Transfer = false
 onByte Reset = false
+onByte Ignored = false

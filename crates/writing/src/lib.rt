@@ -27,6 +27,8 @@ pub enum Effect {
     Transfer,
     // Every default goes into both banks.
     Reset,
+    // A byte to 0x0000 that is not its own mirror: nothing changes.
+    Ignored,
 }
 
 // What the write of one register answers: the byte to record, and the number of the effect.
@@ -109,6 +111,10 @@ fn apply(
             reset(map, active, buffer);
             control_answer(settings, address, v, 5)
         }
+        Effect::Ignored => Written {
+            byte: settings.reading(address),
+            effect: 0,
+        },
     }
 }
 

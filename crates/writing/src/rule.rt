@@ -1,22 +1,36 @@
 // What a write does: the writing rule. It decides by the register's entry and its two bytes before, and changes nothing.
 ghost use mathlib.Core.Path.{_≡_};
-ghost use Rattle.writing.specs.Effect.{controlEffect, effectOf};
+ghost use Rattle.writing.specs.Effect.{configurationEffect, controlEffect, effectOf};
 use crate::Effect;
 use crate::Stages;
 use bits::bit_at;
 use bits::merge;
+use card::is_mirror;
 use regmap::BUFFERED;
 use regmap::CONTROL;
 use regmap::Entry;
 use regmap::PLAIN;
 use settings::asks_reset;
 
+// What a write of v to 0x0000 does.
+fn configuration_effect(v: u8) -> Effect
+    ensures { λ r. ⌜ r ≡ configurationEffect v ⌝ }
+{
+    if is_mirror(v) {
+        if asks_reset(v) {
+            return Effect::Reset;
+        }
+        return Effect::Control;
+    }
+    Effect::Ignored
+}
+
 // What a write of v to a control register does.
 fn control_effect(address: u16, v: u8) -> Effect
     ensures { λ r. ⌜ r ≡ controlEffect address v ⌝ }
 {
-    if (address == 0x0000) & asks_reset(v) {
-        return Effect::Reset;
+    if address == 0x0000 {
+        return configuration_effect(v);
     }
     if (address == 0x000F) & bit_at(v, 0) {
         return Effect::Transfer;

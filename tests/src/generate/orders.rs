@@ -35,7 +35,7 @@ pub fn any_write(random: &mut Random) -> (u64, u64, Vec<u8>) {
         };
         let mut data = random.bytes(count);
         for v in &mut data {
-            *v = if random.one_in(3) { random.pick(&[0x01, 0x00, 0x80, 0x42]) } else { *v };
+            *v = if random.one_in(3) { random.pick(&[0x01, 0x00, 0x80, 0x42, 0x81]) } else { *v };
         }
         let start = start as u64;
         let order = Order { direction: 0, settings, start, count: count as u64, data: &data };

@@ -1,5 +1,6 @@
 //! A second implementation of document 01, plain and fast: one pass over the
-//! samples, nothing allocated while reading.
+//! samples, nothing allocated while reading. Where a request of document 02
+//! changed a rule, it has the rule as it now is.
 //!
 //! | file | section of document 01 |
 //! |---|---|

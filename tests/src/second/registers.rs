@@ -1,7 +1,7 @@
 //! The registers in their two stages, and what a whole byte does to them.
 
 use super::map::{RegisterMap, BLANK, BUFFERED, CONTROL, PLAIN, READ_ONLY};
-use super::settings::{asks_soft_reset, Settings, CONFIGURATION_A};
+use super::settings::{asks_soft_reset, is_own_mirror, Settings, CONFIGURATION_A};
 
 const TRANSFER: u16 = 0x000F;
 
@@ -69,7 +69,9 @@ impl<'a> Registers<'a> {
     }
 
     fn write_control(&mut self, address: u16, v: u8) -> u8 {
-        if address == CONFIGURATION_A && asks_soft_reset(v) {
+        if address == CONFIGURATION_A && !is_own_mirror(v) {
+            NO_EFFECT
+        } else if address == CONFIGURATION_A && asks_soft_reset(v) {
             self.put_defaults();
             SOFT_RESET
         } else if address == TRANSFER && v & 1 != 0 {

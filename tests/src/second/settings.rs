@@ -65,6 +65,7 @@ impl Settings {
     /// The settings after a whole byte was written to an address.
     pub(super) fn after_write(self, address: u16, v: u8) -> Settings {
         match address {
+            CONFIGURATION_A if !is_own_mirror(v) => self,
             CONFIGURATION_A if asks_soft_reset(v) => Settings::taken(LAYOUT_A, v),
             CONFIGURATION_A => self.kept(LAYOUT_B).with(Settings::taken(LAYOUT_A, v)),
             CONFIGURATION_B => self.kept(LAYOUT_A).with(Settings::taken(LAYOUT_B, v)),
@@ -82,7 +83,13 @@ impl Settings {
     }
 }
 
-/// Whether this byte, written to 0x0000, starts a soft reset.
+/// Whether a byte reads the same from both ends. Any other byte does nothing at
+/// 0x0000 (document 02, Ask 2).
+pub(super) fn is_own_mirror(v: u8) -> bool {
+    v == v.reverse_bits()
+}
+
+/// Whether this byte, its own mirror and written to 0x0000, starts a soft reset.
 pub(super) fn asks_soft_reset(v: u8) -> bool {
     v & 0b1000_0001 != 0
 }

@@ -47,6 +47,12 @@ reset-requires c κs = c .before .before .before .before .before .before .before
 control-answer-requires-3 : tie.Need-control-answer-requires-3
 control-answer-requires-3 c κs = search needs
 
+enum-told-5 : tie.Need-enum-told-5
+enum-told-5 c = search needs
+
+reading-requires : tie.Need-reading-requires
+reading-requires c κs = search needs
+
 returns : tie.Need-returns
 unfolding applied writtenBy
 returns c = rw (c .enum-told .given .1) (refl, refl)
@@ -89,6 +95,10 @@ returns-6 : tie.Need-returns-6
 unfolding applied writtenBy
 returns-6 c = rw (c .before .before .before .before .before .before .before .before .enum-told4 .given .1) (c .control-answer3 .ensures, c .before .before .before .before .before .reset .ensures)
 
+returns-7 : tie.Need-returns-7
+unfolding applied writtenBy
+returns-7 c = rw (c .before .enum-told5 .given .1) (rw (c .reading .ensures), refl)
+
 pub apply-spec : {M : Type 1} → statement M
 apply-spec =
     tie.close
@@ -106,6 +116,8 @@ apply-spec =
     enum-told-4
     reset-requires
     control-answer-requires-3
+    enum-told-5
+    reading-requires
     returns
     same-length
     returns-2
@@ -117,4 +129,5 @@ apply-spec =
     returns-5
     same-length-5
     same-length-6
-    returns-6)
+    returns-6
+    returns-7)

@@ -1,8 +1,8 @@
 -- `Settings::after` meets its contract: each branch sets the fields that the definition names for its address.
 use Prim.Native.Nat.{ℕ}
-use mathlib.Core.Bool.{Bool, false, cond, _||_}
-use mathlib.Core.Path.{_≡_, sym, _∙_}
-use borrow.Author.Tests.{eq-eqb, ne-eqb}
+use mathlib.Core.Bool.{Bool, false, cond}
+use mathlib.Core.Path.{_≡_, refl, sym, _∙_}
+use borrow.Author.Tests.{eq-eqb, ne-eqb, not-true, not-false}
 use Rattle.bits.specs.Bits.{bitAt}
 use Rattle.bits.proofs.Cases.{yes, no}
 use Rattle.settings.specs.declared.Settings.{Settings}
@@ -23,7 +23,7 @@ configuredBy t lsb ascending sdo reset = record {
 }
 
 configured-by : (t : Settings) (v : ℕ) {lsb ascending sdo reset : Bool}
-    → lsb ≡ (bitAt v 6 || bitAt v 1) → ascending ≡ (bitAt v 5 || bitAt v 2) → sdo ≡ (bitAt v 4 || bitAt v 3) → reset ≡ resets v
+    → lsb ≡ bitAt v 6 → ascending ≡ bitAt v 5 → sdo ≡ bitAt v 4 → reset ≡ resets v
     → configuredBy t lsb ascending sdo reset ≡ configured t v
 configured-by t v e f g h = λ i. configuredBy t (e i) (f i) (g i) (h i)
 
@@ -43,33 +43,14 @@ configured-b-by : (t : Settings) (v : ℕ) {single readback slow : Bool}
     → configuredBBy t single readback slow ≡ configuredB t v
 configured-b-by t v e f g = λ i. configuredBBy t (e i) (f i) (g i)
 
-either-bit-requires : tie.Need-either-bit-requires
-either-bit-requires c κs = search needs
-
-either-bit-requires-2 : tie.Need-either-bit-requires-2
-either-bit-requires-2 c κs = search needs
-
-either-bit-requires-3 : tie.Need-either-bit-requires-3
-either-bit-requires-3 c κs = search needs
-
-asks-reset-requires : tie.Need-asks-reset-requires
-asks-reset-requires c κs = search needs
+is-mirror-requires : tie.Need-is-mirror-requires
+is-mirror-requires c κs = search needs
 
 returns : tie.Need-returns
 unfolding settingsAfter
 returns c =
-    let b = c .before .before .before .before in
-    yes _ (eq-eqb _ _ (b .before .if1 .taken))
-    (configured-by (b .before .before .args .self) _ (b .either-bit .ensures) (c .before .before .before .either-bit2 .ensures)
-    (c .before .before .either-bit3 .ensures) (sym (c .if2 .taken) ∙ c .before .asks-reset .ensures))
-
-returns-2 : tie.Need-returns-2
-unfolding settingsAfter
-returns-2 c =
-    let b = c .before .before .before .before in
-    yes _ (eq-eqb _ _ (b .before .if1 .taken))
-    (configured-by (b .before .before .args .self) _ (b .either-bit .ensures) (c .before .before .before .either-bit2 .ensures)
-    (c .before .before .either-bit3 .ensures) (sym (c .if2 .left) ∙ c .before .asks-reset .ensures))
+    yes _ (eq-eqb _ _ (c .before .before .if1 .taken))
+    (no _ (sym (c .before .is-mirror .ensures) ∙ not-true _ (c .if2 .taken)) refl)
 
 bit-at-requires : tie.Need-bit-at-requires
 bit-at-requires c κs = search needs
@@ -80,30 +61,64 @@ bit-at-requires-2 c κs = search needs
 bit-at-requires-3 : tie.Need-bit-at-requires-3
 bit-at-requires-3 c κs = search needs
 
+asks-reset-requires : tie.Need-asks-reset-requires
+asks-reset-requires c κs = search needs
+
+returns-2 : tie.Need-returns-2
+unfolding settingsAfter
+returns-2 c =
+    let b = c .before .before .before .before in
+    let m = b .before in
+    yes _ (eq-eqb _ _ (m .before .before .if1 .taken))
+    (yes _ (sym (m .before .is-mirror .ensures) ∙ not-false _ (m .if2 .left))
+    (configured-by (m .before .before .before .args .self) _ (b .bit-at .ensures) (c .before .before .before .bit-at2 .ensures)
+    (c .before .before .bit-at3 .ensures) (sym (c .if3 .taken) ∙ c .before .asks-reset .ensures)))
+
 returns-3 : tie.Need-returns-3
 unfolding settingsAfter
 returns-3 c =
     let b = c .before .before .before .before in
-    no _ (ne-eqb _ _ (b .if1 .left))
-    (yes _ (eq-eqb _ _ (c .before .before .before .if3 .taken))
-    (configured-b-by (b .before .args .self) _ (c .before .before .bit-at .ensures) (c .before .bit-at2 .ensures) (c .bit-at3 .ensures)))
+    let m = b .before in
+    yes _ (eq-eqb _ _ (m .before .before .if1 .taken))
+    (yes _ (sym (m .before .is-mirror .ensures) ∙ not-false _ (m .if2 .left))
+    (configured-by (m .before .before .before .args .self) _ (b .bit-at .ensures) (c .before .before .before .bit-at2 .ensures)
+    (c .before .before .bit-at3 .ensures) (sym (c .if3 .left) ∙ c .before .asks-reset .ensures)))
+
+bit-at-requires-4 : tie.Need-bit-at-requires-4
+bit-at-requires-4 c κs = search needs
+
+bit-at-requires-5 : tie.Need-bit-at-requires-5
+bit-at-requires-5 c κs = search needs
+
+bit-at-requires-6 : tie.Need-bit-at-requires-6
+bit-at-requires-6 c κs = search needs
 
 returns-4 : tie.Need-returns-4
 unfolding settingsAfter
-returns-4 c = rw (ne-eqb _ _ (c .before .if1 .left), ne-eqb _ _ (c .if3 .left))
+returns-4 c =
+    let b = c .before .before .before .before in
+    no _ (ne-eqb _ _ (b .if1 .left))
+    (yes _ (eq-eqb _ _ (c .before .before .before .if4 .taken))
+    (configured-b-by (b .before .args .self) _ (c .before .before .bit-at4 .ensures) (c .before .bit-at5 .ensures) (c .bit-at6 .ensures)))
+
+returns-5 : tie.Need-returns-5
+unfolding settingsAfter
+returns-5 c = rw (ne-eqb _ _ (c .before .if1 .left), ne-eqb _ _ (c .if4 .left))
 
 pub after-spec : {M : Type 1} → statement M
 after-spec =
     tie.close
     (tie.spec
-    either-bit-requires
-    either-bit-requires-2
-    either-bit-requires-3
-    asks-reset-requires
+    is-mirror-requires
     returns
-    returns-2
     bit-at-requires
     bit-at-requires-2
     bit-at-requires-3
+    asks-reset-requires
+    returns-2
     returns-3
-    returns-4)
+    bit-at-requires-4
+    bit-at-requires-5
+    bit-at-requires-6
+    returns-4
+    returns-5)

@@ -1,13 +1,13 @@
--- `asks_reset` meets its contract: one of the two bits is set.
+-- `asks_reset` meets its contract: its bit.
 use borrow.Author.Needs.{needs}
 use Rattle.settings.proofs.control.asks_reset.Statement.{statement}
 use Rattle.settings.proofs.control.asks_reset.Tie as tie
 
-either-bit-requires : tie.Need-either-bit-requires
-either-bit-requires c κs = search needs
+bit-at-requires : tie.Need-bit-at-requires
+bit-at-requires c κs = search needs
 
 returns : tie.Need-returns
-returns c = c .either-bit .ensures
+returns c = c .bit-at .ensures
 
 pub asks-reset-spec : {M : Type 1} → statement M
-asks-reset-spec = tie.close (tie.spec either-bit-requires returns)
+asks-reset-spec = tie.close (tie.spec bit-at-requires returns)
