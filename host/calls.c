@@ -123,11 +123,11 @@ static size_t two_bytes(uint8_t *samples, size_t room)
 
 static void check_open(void)
 {
-    static const uint8_t opened[COUPLINGNUT_SESSION_SIZE] = {1, 1};
+    static const uint8_t opened[COUPLINGNUT_SESSION_SIZE] = {2, 1};
     struct recording r;
 
     check(open_map(&r) == COUPLINGNUT_DONE, "a good map is opened");
-    check(memcmp(r.session.bytes, opened, sizeof opened) == 0, "the opened session is version 1, at rest with CSB high");
+    check(memcmp(r.session.bytes, opened, sizeof opened) == 0, "the opened session is version 2, at rest with CSB high");
     check(r.active[0x0C] == 0x56 && r.buffer[0x0D] == 0x04, "both banks have the defaults");
     memset(&r, PATTERN, sizeof r);
     check(couplingnut_open(map, sizeof map, &r.session, r.active, 15, r.buffer, 16) == COUPLINGNUT_BAD_BANK &&
@@ -152,10 +152,10 @@ static void check_read(void)
     before.count = 0;
     check(read_into(&r, samples, length, 11) == COUPLINGNUT_SHORT_RECORDS && memcmp(&r, &before, sizeof r) == 0,
           "room for one byte less is refused 6, and all is as it was");
-    r.session.bytes[0] = 2;
+    r.session.bytes[0] = 1;
     before = r;
     check(read_into(&r, samples, length, sizeof r.records) == COUPLINGNUT_BAD_SESSION && memcmp(&r, &before, sizeof r) == 0,
-          "a session of another version is refused 1, and comes back as given");
+          "a session of version 1 is refused 1, and comes back as given");
 }
 
 static void check_next(void)

@@ -81,21 +81,21 @@ enum { COUPLINGNUT_MOST_READ = 65536 };
 
 /*
  * Where a recording stands between two calls: nothing but these bytes, so it can be copied, compared and stored. Opening makes
- * the first one. Version 1 of the layout, a byte for each field but the two numbers of 2 bytes, high byte first:
+ * the first one. Version 2 of the layout, a byte for each field but the two numbers of 2 bytes, high byte first:
  *
- *      0         the version, 1
+ *      0         the version, 2
  *      1, 2      the last CSB and SCLK
  *      3         the phase: 0 rest, 1 instruction, 2 data
  *      4         how many bits of the present instruction or byte are taken
  *      5, 6      their value
  *      7, 8      the address
  *      9         the direction: 0 write, 1 read
- *     10 to 15   the settings: LSB first, ascending, SDO active, single instruction, buffer readback, slow
- *     16 to 19   the first four of them as the present instruction uses them
+ *     10 to 14   the settings: LSB first, ascending, SDO active, single instruction, buffer readback
+ *     15 to 18   the first four of them as the present instruction uses them
  *
  * Flags are 0 or 1. Bytes with another version, phase or flag are no session.
  */
-#define COUPLINGNUT_SESSION_SIZE 20
+#define COUPLINGNUT_SESSION_SIZE 19
 typedef struct couplingnut_session {
     uint8_t bytes[COUPLINGNUT_SESSION_SIZE];
 } couplingnut_session;

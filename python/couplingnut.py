@@ -27,7 +27,7 @@ __all__ = ['Record', 'Refused', 'Session', 'Settings', 'SettingsInUse', 'banks',
 WRITE, READ = 0, 1
 LSB_FIRST, ASCENDING, SINGLE_INSTRUCTION = 1, 2, 4
 
-SESSION_SIZE = 20
+SESSION_SIZE = 19
 RECORD_SIZE = 6
 MOST_SAMPLES = 48003  # No order gives more.
 PHASES = ('rest', 'instruction', 'data')
@@ -67,13 +67,12 @@ class Refused(Exception):
 
 
 class Settings(NamedTuple):
-    """The six settings of a session."""
+    """The five settings of a session."""
     lsb_first: bool
     ascending: bool
     sdo_active: bool
     single_instruction: bool
     buffer_readback: bool
-    slow: bool
 
 
 class SettingsInUse(NamedTuple):
@@ -98,7 +97,7 @@ class Record(NamedTuple):
 
 
 class Session:
-    """What the reader keeps between calls, as a value of 20 bytes. Any such bytes make one; the reader refuses those that are none."""
+    """What the reader keeps between calls, as a value of 19 bytes. Any such bytes make one; the reader refuses those that are none."""
     __slots__ = ('_bytes',)
 
     def __init__(self, data):
@@ -163,12 +162,12 @@ class Session:
     @property
     def settings(self):
         """The settings, which the next instruction starts with."""
-        return Settings(*map(bool, self._bytes[10:16]))
+        return Settings(*map(bool, self._bytes[10:15]))
 
     @property
     def settings_in_use(self):
         """The settings that this instruction started with."""
-        return SettingsInUse(*map(bool, self._bytes[16:20]))
+        return SettingsInUse(*map(bool, self._bytes[15:19]))
 
 
 def message(number):

@@ -39,7 +39,7 @@ class Couplingnut(unittest.TestCase):
         session, active, buffer = opened()
         self.assertEqual(bytes(active), MAP[7::3])
         self.assertEqual(active, buffer)
-        self.assertEqual((session.version, session.last_csb, session.last_sclk, session.phase), (1, 1, 0, 'rest'))
+        self.assertEqual((session.version, session.last_csb, session.last_sclk, session.phase), (2, 1, 0, 'rest'))
         self.assertEqual((session.bits, session.value, session.address, session.direction), (0, 0, 0, cn.WRITE))
         self.assertFalse(any(session.settings) or any(session.settings_in_use))
 
@@ -103,7 +103,7 @@ class Couplingnut(unittest.TestCase):
         unsound = bytes(session)[:1] + b'\0' + bytes(session)[2:]
         for call in (cn.read, cn.next_record):
             self.assert_refused(1, call, MAP, cn.Session(unsound), *banks, SCRATCH_WRITE)
-            self.assert_refused(1, call, MAP, cn.Session(b'\2' + bytes(session)[1:]), *banks, SCRATCH_WRITE)
+            self.assert_refused(1, call, MAP, cn.Session(b'\1' + bytes(session)[1:]), *banks, SCRATCH_WRITE)
             self.assert_refused(2, call, b'', session, *banks, SCRATCH_WRITE)
             self.assert_refused(3, call, MAP[:-3] + b'\0\0\0', session, *banks, SCRATCH_WRITE)
             self.assert_refused(4, call, MAP, session, banks[0], bytearray(17), SCRATCH_WRITE)
@@ -118,8 +118,8 @@ class Couplingnut(unittest.TestCase):
         """a session as a value, by its layout"""
         session, *banks = opened()
         session, _ = cn.read(MAP, session, *banks, cn.send(cn.WRITE, 0, 0x0000, 1, [0x3C]))
-        session, _ = cn.read(MAP, session, *banks, cn.send(cn.WRITE, cn.ASCENDING, 0x0001, 1, [0x20]))
-        self.assertEqual(session.settings, cn.Settings(False, True, True, False, True, False))
+        session, _ = cn.read(MAP, session, *banks, cn.send(cn.WRITE, cn.ASCENDING, 0x0001, 1, [0x30]))
+        self.assertEqual(session.settings, cn.Settings(False, True, True, False, True))
         # 16 bits of a read of 0x000C, and three of its data, the last two of them high.
         run = cn.send(cn.READ, cn.ASCENDING, 0x000C, 1)
         session, _ = cn.read(MAP, session, *banks, run[:35] + b'\x08\x0A\x08\x0A')
@@ -128,7 +128,7 @@ class Couplingnut(unittest.TestCase):
         self.assertEqual(session.settings_in_use, cn.SettingsInUse(False, True, True, False))
         again = cn.Session(bytes(session))
         self.assertTrue(again == session and hash(again) == hash(session) and eval(repr(session), {'Session': cn.Session}) == session)
-        self.assertRaises(ValueError, cn.Session, b'\1' * 19)
+        self.assertRaises(ValueError, cn.Session, b'\1' * 20)
 
     def test_send(self):
         """sending, and each of its refusals"""

@@ -1,34 +1,33 @@
-//! The session as a caller of the library holds it: twenty bytes, by the table
+//! The session as a caller of the library holds it: nineteen bytes, by the table
 //! of the header. This is the second implementation's side of it.
 
 use crate::second::session::{Phase, Session, CSB, SCLK};
 use crate::second::settings::Settings;
 
-pub const SESSION_SIZE: usize = 20;
+pub const SESSION_SIZE: usize = 19;
 
 pub type SessionBytes = [u8; SESSION_SIZE];
 
-/// The version of the layout, its first byte.
-const VERSION: u8 = 1;
+/// The version of the layout, its first byte. Version 1 had a sixth setting.
+const VERSION: u8 = 2;
 /// Where the settings start, and after them the settings in use.
 const SETTINGS_AT: usize = 10;
-const IN_USE_AT: usize = 16;
+const IN_USE_AT: usize = 15;
 
 /// The bytes that are 0 or 1: CSB, SCLK, the direction, and every setting.
-pub const FLAGS: [usize; 13] = [1, 2, 9, 10, 11, 12, 13, 14, 15, 16, 17, 18, 19];
+pub const FLAGS: [usize; 12] = [1, 2, 9, 10, 11, 12, 13, 14, 15, 16, 17, 18];
 /// The byte that is 0 to 2.
 pub const PHASE_AT: usize = 3;
 
 const PHASES: [Phase; 3] = [Phase::Rest, Phase::Instruction, Phase::Data];
 
 /// The settings in their order; the first four are also the settings in use.
-const SETTINGS: [Settings; 6] = [
+const SETTINGS: [Settings; 5] = [
     Settings::LSB_FIRST,
     Settings::ASCENDING,
     Settings::SDO_ACTIVE,
     Settings::SINGLE_INSTRUCTION,
     Settings::BUFFER_READBACK,
-    Settings::SLOW,
 ];
 
 /// The bytes of a session whose fields hold what they are meant for.

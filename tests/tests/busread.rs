@@ -253,7 +253,7 @@ fn refuses_an_input_that_ends_inside_the_map() {
             assert_eq!(ended.output, b"refused 2\n", "{end} of {} bytes", map.len());
         }
         let ended = output_of(&mut busread(), &map, Feed::Pipe);
-        assert_eq!(ended.output, format!("map {count}\nrecords 0 samples 0\n").into_bytes());
+        assert_eq!(ended.output, format!("map {count}\nrecords 0 samples 0 slow 0\n").into_bytes());
     }
 }
 

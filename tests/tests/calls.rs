@@ -9,7 +9,7 @@ use couplingnut_tests::generate::random::Random;
 use couplingnut_tests::generate::sessions::{every_piece, with_every_setting};
 use couplingnut_tests::generate::traces::{clocks, trace};
 use couplingnut_tests::guarded::Against;
-use couplingnut_tests::layout::to_bytes;
+use couplingnut_tests::layout::{to_bytes, SESSION_SIZE};
 use couplingnut_tests::second::reader::RECORD;
 use couplingnut_tests::second::session::{Phase, Session};
 
@@ -67,14 +67,14 @@ fn compare_chain(comparison: &mut Comparison, mut chain: Chain) {
 }
 
 /// Every phase, number of bits, direction, setting, setting in use and level of
-/// SCLK, read on for a byte or two.
+/// SCLK, read on for a byte or two; each twice, with other contents.
 #[test]
 fn sessions_in_every_phase_and_setting_are_read_on() {
     let mut comparison = Comparison::new("calls::sessions_in_every_phase_and_setting_are_read_on");
     let mut random = Random::new(1);
     let map = good_map(&mut random, 24);
-    let sessions = every_piece().into_iter().flat_map(with_every_setting);
-    for (seed, shape) in (0..).zip(sessions) {
+    let sessions = || every_piece().into_iter().flat_map(with_every_setting);
+    for (seed, shape) in (0..).zip(sessions().chain(sessions())) {
         comparison.begin(seed, against(seed));
         let mut random = Random::new(seed);
         let session = with_contents(&mut random, shape);
@@ -89,8 +89,8 @@ fn sessions_in_every_phase_and_setting_are_read_on() {
             assert_eq!(comparison.call(call, &given).number, 0, "{session:?}");
         }
     }
-    let (at_rest, in_a_piece) = (64 * 2, (16 + 8 + 8) * 64 * 16 * 2);
-    assert_eq!(comparison.tally.calls, 2 * (at_rest + in_a_piece));
+    let (at_rest, in_a_piece) = (32 * 2, (16 + 8 + 8) * 32 * 16 * 2);
+    assert_eq!(comparison.tally.calls, 2 * 2 * (at_rest + in_a_piece));
     comparison.tally.assert_records(100);
 }
 
@@ -165,7 +165,7 @@ fn the_printed_case_call_by_call() {
     let mut comparison = Comparison::new("calls::the_printed_case_call_by_call");
     comparison.begin(0, Against::PageAfter);
     let mut given = Given::opened(&simple_map(16));
-    given.session = [0xEE; 20];
+    given.session = [0xEE; SESSION_SIZE];
     given.active = vec![0xAA; 16];
     let opened = comparison.call(Call::Open, &given);
     assert_eq!((opened.number, opened.active[0x000A]), (0, 0x00));

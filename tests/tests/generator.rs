@@ -98,7 +98,7 @@ fn settings_change_on_the_way() {
             readings.insert(line[10..12].to_string());
         }
     }
-    let text = |readings: [&str; 8]| readings.map(String::from).into();
-    assert_eq!(a, text(["00", "18", "24", "3C", "42", "5A", "66", "7E"]));
-    assert_eq!(b, text(["00", "10", "20", "30", "80", "90", "A0", "B0"]));
+    let text = |readings: &[&str]| readings.iter().map(|text| text.to_string()).collect();
+    assert_eq!(a, text(&["00", "18", "24", "3C", "42", "5A", "66", "7E"]));
+    assert_eq!(b, text(&["00", "20", "80", "A0"]));
 }

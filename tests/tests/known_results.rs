@@ -42,7 +42,7 @@ fn assert_text(map: &[u8], samples: &[u8], expected: &str) {
 fn the_printed_case() {
     let samples = write_of(0x000A, &[0x3C]);
     assert_eq!(samples.len(), 51);
-    assert_text(&simple_map(16), &samples, "map 16\nW 000A 3C 3C 1\nrecords 1 samples 51\n");
+    assert_text(&simple_map(16), &samples, "map 16\nW 000A 3C 3C 1\nrecords 1 samples 51 slow 0\n");
 }
 
 #[test]
@@ -50,12 +50,12 @@ fn smallest_and_largest_map() {
     let smallest = simple_map(16);
     assert_eq!((&smallest[..2], smallest.len()), (&[0x00, 0x33][..], 53));
     assert_eq!(map_test(&smallest), 0);
-    assert_text(&smallest, &[], "map 16\nrecords 0 samples 0\n");
+    assert_text(&smallest, &[], "map 16\nrecords 0 samples 0 slow 0\n");
 
     let largest = simple_map(8_192);
     assert_eq!((&largest[..2], largest.len()), (&[0x60, 0x03][..], 24_581));
     assert_eq!(map_test(&largest), 0);
-    assert_text(&largest, &[], "map 8192\nrecords 0 samples 0\n");
+    assert_text(&largest, &[], "map 8192\nrecords 0 samples 0 slow 0\n");
 }
 
 #[test]
@@ -76,7 +76,7 @@ fn bits_outside_the_mask_keep_their_value() {
     assert_eq!(chip.write(0x0010, &[0x3C]), ["W 0010 3C AC 1"]);
     assert_eq!(chip.active[0x0010], 0xAC);
     let samples = write_of(0x0010, &[0x3C]);
-    assert_text(&map, &samples, "map 17\nW 0010 3C AC 1\nrecords 1 samples 51\n");
+    assert_text(&map, &samples, "map 17\nW 0010 3C AC 1\nrecords 1 samples 51 slow 0\n");
 }
 
 #[test]
@@ -84,13 +84,13 @@ fn scratch_write_bit_by_bit() {
     let highest_first = frame("0000000000001010 00110101");
     assert_eq!(write_of(0x000A, &[0x35]), highest_first);
     let map = simple_map(16);
-    assert_text(&map, &highest_first, "map 16\nW 000A 35 35 1\nrecords 1 samples 51\n");
+    assert_text(&map, &highest_first, "map 16\nW 000A 35 35 1\nrecords 1 samples 51 slow 0\n");
 
     let lowest_first = frame("0101000000000000 10101100");
     let order = Order { direction: 0, settings: 1, start: 0x000A, count: 1, data: &[0x35] };
     assert_eq!(sent(&order), lowest_first);
     let samples = [write_of(0x0000, &[0x42]), lowest_first].concat();
-    let expected = "map 16\nW 0000 42 42 3\nW 000A 35 35 1\nrecords 2 samples 102\n";
+    let expected = "map 16\nW 0000 42 42 3\nW 000A 35 35 1\nrecords 2 samples 102 slow 0\n";
     assert_text(&map, &samples, expected);
 }
 
@@ -103,7 +103,7 @@ fn a_write_cut_off() {
     {
         let samples = [&whole[..kept], &[0x01]].concat();
         let (records, length) = (line.lines().count(), samples.len());
-        let expected = format!("map 16\n{line}records {records} samples {length}\n");
+        let expected = format!("map 16\n{line}records {records} samples {length} slow 0\n");
         assert_text(&map, &samples, &expected);
     }
 }
@@ -113,8 +113,50 @@ fn a_write_cut_off() {
 fn writes_to_0x0000() {
     for (v, line) in [(0x40, "W 0000 40 00 0"), (0x81, "W 0000 81 00 5")] {
         let samples = write_of(0x0000, &[v]);
-        assert_text(&simple_map(16), &samples, &format!("map 16\n{line}\nrecords 1 samples 51\n"));
+        assert_text(
+            &simple_map(16),
+            &samples,
+            &format!("map 16\n{line}\nrecords 1 samples 51 slow 0\n"),
+        );
     }
+}
+
+/// Ask 9 of document 02: whole writes to 0x0001 with bit 4 are counted, and the
+/// bit is nowhere else.
+#[test]
+fn slow_writes_are_counted() {
+    let mut read = read_of(0x0001);
+    // Bit 4 of the byte on the line.
+    read[39..41].iter_mut().for_each(|sample| *sample |= 4);
+    let broken = [&write_of(0x0001, &[0x10])[..47], &[0x01]].concat();
+    let steps = [
+        write_of(0x0001, &[0x10]),
+        write_of(0x0001, &[0x10]),
+        write_of(0x0001, &[0xB0]),
+        write_of(0x0001, &[0x20]),
+        read,
+        broken,
+        write_of(0x000A, &[0x10]),
+    ];
+    let lines = [
+        "map 16",
+        "W 0001 10 00 3",
+        "W 0001 10 00 3",
+        "W 0001 B0 A0 3",
+        "W 0001 20 20 3",
+        "R 0001 20 10 1",
+        "C 0001 07 01 0",
+        "W 000A 10 10 1",
+        "records 7 samples 354 slow 3\n",
+    ];
+    assert_text(&simple_map(16), &steps.concat(), &lines.join("\n"));
+    // Over all pieces; a refusal has no last line.
+    let many = write_of(0x0001, &[0x10]).repeat(300);
+    let lines = "W 0001 10 00 3\n".repeat(300);
+    let expected = format!("map 16\n{lines}records 300 samples 15300 slow 300\n");
+    assert_text(&simple_map(16), &many, &expected);
+    let refused = [write_of(0x0001, &[0x10]), vec![0x10]].concat();
+    assert_text(&simple_map(16), &refused, "map 16\nrefused 5\n");
 }
 
 #[test]
@@ -124,13 +166,13 @@ fn addresses_wrap() {
 
     let map = simple_map(16);
     let down = write_of(0x0000, &[0x00, 0x11]);
-    let expected = "map 16\nW 0000 00 00 3\nW 7FFF 11 00 0\nrecords 2 samples 67\n";
+    let expected = "map 16\nW 0000 00 00 3\nW 7FFF 11 00 0\nrecords 2 samples 67 slow 0\n";
     assert_text(&map, &down, expected);
 
     let order = Order { direction: 0, settings: 2, start: 0x7FFF, count: 2, data: &[0x22, 0x24] };
     let up = [write_of(0x0000, &[0x24]), sent(&order)].concat();
     let expected =
-        "map 16\nW 0000 24 24 3\nW 7FFF 22 00 0\nW 0000 24 24 3\nrecords 3 samples 118\n";
+        "map 16\nW 0000 24 24 3\nW 7FFF 22 00 0\nW 0000 24 24 3\nrecords 3 samples 118 slow 0\n";
     assert_text(&map, &up, expected);
 }
 
@@ -166,7 +208,7 @@ fn a_buffered_register_waits_for_the_transfer() {
         "W 000F 01 00 4",
         "W 0001 00 00 3",
         "R 0010 22 00 1",
-        "records 7 samples 357\n",
+        "records 7 samples 357 slow 0\n",
     ];
     assert_text(&map, &steps.concat(), &lines.join("\n"));
 }
@@ -189,7 +231,7 @@ fn empty_and_long_traces() {
     assert_eq!(chip.call(&at_rest[1..], &mut []), Answer { number: 0, count: 0 });
     assert_eq!(chip.call(&at_rest, &mut []), Answer { number: 5, count: 0 });
     // The program goes piece by piece, and so has no limit.
-    assert_text(&simple_map(16), &at_rest, "map 16\nrecords 0 samples 65537\n");
+    assert_text(&simple_map(16), &at_rest, "map 16\nrecords 0 samples 65537 slow 0\n");
 }
 
 /// 4,096 samples never give more than 1,366 records, and can give as many.

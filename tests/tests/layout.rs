@@ -5,7 +5,9 @@ use couplingnut_tests::generate::maps::simple_map;
 use couplingnut_tests::generate::random::Random;
 use couplingnut_tests::generate::sessions::{every_piece, sound_session, with_every_setting};
 use couplingnut_tests::guarded::Against;
-use couplingnut_tests::layout::{from_bytes, to_bytes, SessionBytes};
+use couplingnut_tests::layout::{from_bytes, to_bytes, SessionBytes, FLAGS, PHASE_AT};
+use couplingnut_tests::second::session::{Phase, Session, SCLK};
+use couplingnut_tests::second::settings::Settings;
 
 #[test]
 fn every_session_goes_to_bytes_and_back() {
@@ -16,6 +18,37 @@ fn every_session_goes_to_bytes_and_back() {
     for _ in 0..20_000 {
         let session = sound_session(&mut random);
         assert_eq!(from_bytes(&to_bytes(&session)), Some(session));
+    }
+}
+
+/// A session in which no field is like its neighbour, by hand; then what makes
+/// its bytes those of no session.
+#[test]
+fn the_bytes_of_a_session_are_by_the_table() {
+    let session = Session {
+        levels: SCLK,
+        phase: Phase::Data,
+        bits: 5,
+        value: 0x0013,
+        address: 0x4A53,
+        read: true,
+        settings: Settings::ASCENDING.with(Settings::BUFFER_READBACK),
+        in_use: Settings::LSB_FIRST.with(Settings::SINGLE_INSTRUCTION),
+    };
+    let bytes: SessionBytes = [2, 0, 1, 2, 5, 0x00, 0x13, 0x4A, 0x53, 1, 0, 1, 0, 0, 1, 1, 0, 0, 1];
+    assert_eq!(to_bytes(&session), bytes);
+    assert_eq!(from_bytes(&bytes), Some(session));
+    let with = |at: usize, value| {
+        let mut other = bytes;
+        other[at] = value;
+        from_bytes(&other)
+    };
+    for value in (0..=255).filter(|&value| value != 2) {
+        assert_eq!(with(0, value), None, "version {value}");
+    }
+    for value in 2..=255 {
+        assert_eq!(with(PHASE_AT, value).is_some(), value == 2, "phase {value}");
+        assert!(FLAGS.iter().all(|&at| with(at, value).is_none()), "a flag of {value}");
     }
 }
 
@@ -41,26 +74,26 @@ fn every_field_has_its_place() {
         assert_eq!((left.number, left.session), (0, expected));
         given.go_on(&left);
     };
-    leaves(&[], [1, 1, 0, 0, 0, 0, 0, 0, 0, 0, 0, 0, 0, 0, 0, 0, 0, 0, 0, 0]);
-    leaves(&[0x03], [1, 1, 1, 0, 0, 0, 0, 0, 0, 0, 0, 0, 0, 0, 0, 0, 0, 0, 0, 0]);
+    leaves(&[], [2, 1, 0, 0, 0, 0, 0, 0, 0, 0, 0, 0, 0, 0, 0, 0, 0, 0, 0]);
+    leaves(&[0x03], [2, 1, 1, 0, 0, 0, 0, 0, 0, 0, 0, 0, 0, 0, 0, 0, 0, 0, 0]);
     // 0x42 to 0x0000: LSB first, in use from the next instruction on.
     let frame = [&[0][..], &clocked("0000 0000 0000 0000 0100 0010", SDIO), &[1]].concat();
-    leaves(&frame, [1, 1, 0, 0, 0, 0, 0, 0, 0, 0, 1, 0, 0, 0, 0, 0, 0, 0, 0, 0]);
-    leaves(&[0x00], [1, 0, 0, 1, 0, 0, 0, 0, 0, 0, 1, 0, 0, 0, 0, 0, 1, 0, 0, 0]);
+    leaves(&frame, [2, 1, 0, 0, 0, 0, 0, 0, 0, 0, 1, 0, 0, 0, 0, 0, 0, 0, 0]);
+    leaves(&[0x00], [2, 0, 0, 1, 0, 0, 0, 0, 0, 0, 1, 0, 0, 0, 0, 1, 0, 0, 0]);
     // 0x24 and then 0x18, lowest bit first, each alone.
     let frame = [&clocked("0000 0000 0000 0000 0010 0100", SDIO)[..], &[1, 0]].concat();
-    leaves(&frame, [1, 0, 0, 1, 0, 0, 0, 0, 0, 0, 0, 1, 0, 0, 0, 0, 0, 1, 0, 0]);
+    leaves(&frame, [2, 0, 0, 1, 0, 0, 0, 0, 0, 0, 0, 1, 0, 0, 0, 0, 1, 0, 0]);
     let frame = [&clocked("0000 0000 0000 0000 0001 1000", SDIO)[..], &[1, 0]].concat();
-    leaves(&frame, [1, 0, 0, 1, 0, 0, 0, 0, 0, 0, 0, 0, 1, 0, 0, 0, 0, 0, 1, 0]);
-    // 0xB0 to 0x0001: the other three.
+    leaves(&frame, [2, 0, 0, 1, 0, 0, 0, 0, 0, 0, 0, 0, 1, 0, 0, 0, 0, 1, 0]);
+    // 0xB0 to 0x0001: the other two. Bit 4 is none of them.
     let frame = [&clocked("0000 0000 0000 0001 1011 0000", SDIO)[..], &[1]].concat();
-    leaves(&frame, [1, 1, 0, 0, 0, 0, 0, 0, 0, 0, 0, 0, 1, 1, 1, 1, 0, 0, 0, 0]);
-    leaves(&[0x00], [1, 0, 0, 1, 0, 0, 0, 0, 0, 0, 0, 0, 1, 1, 1, 1, 0, 0, 1, 1]);
+    leaves(&frame, [2, 1, 0, 0, 0, 0, 0, 0, 0, 0, 0, 0, 1, 1, 1, 0, 0, 0, 0]);
+    leaves(&[0x00], [2, 0, 0, 1, 0, 0, 0, 0, 0, 0, 0, 0, 1, 1, 1, 0, 0, 1, 1]);
     // A read of 0x4A53, bit by bit; then two bits on SDO.
     let bits = clocked("1100 1010 0101 00", SDIO);
-    leaves(&bits, [1, 0, 1, 1, 14, 0x32, 0x94, 0, 0, 0, 0, 0, 1, 1, 1, 1, 0, 0, 1, 1]);
+    leaves(&bits, [2, 0, 1, 1, 14, 0x32, 0x94, 0, 0, 0, 0, 0, 1, 1, 1, 0, 0, 1, 1]);
     let bits = clocked("11", SDIO);
-    leaves(&bits, [1, 0, 1, 2, 0, 0, 0, 0x4A, 0x53, 1, 0, 0, 1, 1, 1, 1, 0, 0, 1, 1]);
+    leaves(&bits, [2, 0, 1, 2, 0, 0, 0, 0x4A, 0x53, 1, 0, 0, 1, 1, 1, 0, 0, 1, 1]);
     let bits = [&clocked("10", SDO)[..], &[0]].concat();
-    leaves(&bits, [1, 0, 0, 2, 2, 0, 2, 0x4A, 0x53, 1, 0, 0, 1, 1, 1, 1, 0, 0, 1, 1]);
+    leaves(&bits, [2, 0, 0, 2, 2, 0, 2, 0x4A, 0x53, 1, 0, 0, 1, 1, 1, 0, 0, 1, 1]);
 }

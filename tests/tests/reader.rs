@@ -153,8 +153,10 @@ fn every_condition_of_soundness_is_looked_at() {
     let rest = Session::opened();
     let data = Session { levels: 0, phase: Phase::Data, ..rest };
     // Fields of this implementation that hold more than they are meant for.
-    let overfull =
-        [Session { levels: CSB | 4, ..rest }, Session { in_use: Settings::SLOW, ..data }];
+    let overfull = [
+        Session { levels: CSB | 4, ..rest },
+        Session { in_use: Settings::BUFFER_READBACK, ..data },
+    ];
     for session in unsound_sessions().into_iter().chain(overfull) {
         let mut chip = Chip::opened(&simple_map(16));
         chip.session = session;
@@ -235,10 +237,10 @@ fn in_single_instruction_a_new_setting_counts_at_once() {
 #[test]
 fn the_session_between_two_calls() {
     let mut chip = Chip::opened(&simple_map(16));
-    chip.write(0x0001, &[0xB0]);
+    chip.write(0x0001, &[0xA0]);
     chip.write(0x0000, &[0x7E]);
     let in_use = USABLE.into_iter().fold(Settings::NONE, Settings::with);
-    let settings = in_use.with(Settings::BUFFER_READBACK).with(Settings::SLOW);
+    let settings = in_use.with(Settings::BUFFER_READBACK);
     let at_rest = Session { settings, ..Session::opened() };
     assert_eq!(chip.session, at_rest);
 

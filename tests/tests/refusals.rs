@@ -37,7 +37,7 @@ fn the_lowest_number_that_applies_is_given() {
 }
 
 /// At rest, last SCLK low, all settings clear.
-const OPENED: SessionBytes = [1, 1, 0, 0, 0, 0, 0, 0, 0, 0, 0, 0, 0, 0, 0, 0, 0, 0, 0, 0];
+const OPENED: SessionBytes = [2, 1, 0, 0, 0, 0, 0, 0, 0, 0, 0, 0, 0, 0, 0, 0, 0, 0, 0];
 
 /// A call that is done and has a record.
 fn good_call(random: &mut Random) -> Given {
@@ -69,7 +69,7 @@ fn every_byte_of_a_session_is_looked_at() {
             for value in 0..=255 {
                 given.session = sound;
                 given.session[at] = value;
-                let no_session = at == 0 && value != 1
+                let no_session = at == 0 && value != 2
                     || at == PHASE_AT && value > 2
                     || FLAGS.contains(&at) && value > 1;
                 for call in Call::READING {
@@ -81,6 +81,26 @@ fn every_byte_of_a_session_is_looked_at() {
         }
     }
     comparison.tally.assert_numbers(Call::Read, &[0, 1], 1_000);
+}
+
+/// Bytes of the layout's version 1, which had the slow setting in byte 15, are no
+/// session, whatever they held.
+#[test]
+fn old_bytes_are_refused_with_1() {
+    let mut comparison = Comparison::new("refusals::old_bytes_are_refused_with_1");
+    comparison.begin(0, Against::PageAfter);
+    for old in [
+        [1, 1, 0, 0, 0, 0, 0, 0, 0, 0, 0, 0, 0, 0, 0, 0, 0, 0, 0, 0],
+        [1, 1, 0, 0, 0, 0, 0, 0, 0, 0, 1, 1, 1, 1, 1, 0, 0, 0, 0, 0],
+        [1, 0, 1, 1, 3, 0, 5, 0, 0, 0, 1, 0, 0, 0, 0, 0, 1, 0, 0, 0],
+        [1, 0, 0, 2, 2, 0, 2, 0x4A, 0x53, 1, 0, 0, 1, 1, 1, 1, 0, 0, 1, 1],
+    ] {
+        let mut given = Given::opened(&simple_map(16));
+        given.session.copy_from_slice(&old[..SESSION_SIZE]);
+        for call in Call::READING {
+            assert_eq!(comparison.call(call, &given), given.untouched(1));
+        }
+    }
 }
 
 #[test]

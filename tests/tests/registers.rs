@@ -89,7 +89,6 @@ fn settings_read_as(a: u8, b: u8) -> Settings {
         (bit(a, 4), Settings::SDO_ACTIVE),
         (bit(b, 7), Settings::SINGLE_INSTRUCTION),
         (bit(b, 5), Settings::BUFFER_READBACK),
-        (bit(b, 4), Settings::SLOW),
     ];
     let set = named.into_iter().filter(|(is_set, _)| *is_set);
     set.fold(Settings::NONE, |sum, (_, one)| sum.with(one))
@@ -97,7 +96,7 @@ fn settings_read_as(a: u8, b: u8) -> Settings {
 
 /// Readings of 0x0000 and 0x0001, one pair for each combination of settings.
 fn every_pair_of_readings() -> impl Iterator<Item = (u8, u8)> {
-    let b = [0x00, 0x10, 0x20, 0x30, 0x80, 0x90, 0xA0, 0xB0];
+    let b = [0x00, 0x20, 0x80, 0xA0];
     MIRRORS[..8].iter().flat_map(move |&a| b.map(|b| (a, b)))
 }
 
@@ -192,11 +191,12 @@ fn every_byte_written_to_0x0001() {
         let mut chip = Chip::opened(&simple_map(16));
         chip.write(0x0000, &[0x5A]);
         let before = chip.clone();
-        let reading = v & 0b1011_0000;
+        // The record shows the byte as given; bit 4 is no setting (Ask 9).
+        let reading = v & 0b1010_0000;
         assert_eq!(chip.write(0x0001, &[v]), [format!("W 0001 {v:02X} {reading:02X} 3")]);
         assert_eq!(chip.session.settings.has(Settings::SINGLE_INSTRUCTION), bit(v, 7));
         assert_eq!(chip.session.settings.has(Settings::BUFFER_READBACK), bit(v, 5));
-        assert_eq!(chip.session.settings.has(Settings::SLOW), bit(v, 4));
+        assert_eq!(chip.session.settings, settings_read_as(0x5A, reading));
         assert_eq!(chip.due(0x0001), reading);
         assert_eq!(chip.due(0x0000), 0x5A);
         assert_eq!((&chip.active, &chip.buffer), (&before.active, &before.buffer));

@@ -41,6 +41,22 @@ fn portions_are_put_together() {
     }
 }
 
+/// The number at the end of the last line is that of the lines that ask for slow.
+#[test]
+fn slow_writes_are_counted_over_all_pieces() {
+    let (mut none, mut several) = (0, 0);
+    for seed in 0..1_000 {
+        let text = String::from_utf8(report(&generate::input(seed))).expect("a report is ASCII");
+        let asks = |line: &&str| line.starts_with("W 0001") && "13579BDF".contains(&line[7..8]);
+        let slow = text.lines().filter(asks).count();
+        let last = text.lines().last().expect("a report has a line");
+        assert!(last.starts_with("refused") || last.ends_with(&format!(" slow {slow}")), "{last}");
+        none += usize::from(slow == 0);
+        several += usize::from(slow > 1);
+    }
+    assert!(none > 50 && several > 50, "{none} reports without, {several} with several");
+}
+
 #[test]
 fn an_input_error_is_not_the_end() {
     let mut whole = 0;

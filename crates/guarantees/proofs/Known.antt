@@ -50,6 +50,7 @@ known-results = record {
   stopped-49 = refl;
   control-40 = refl;
   control-81 = refl;
+  control-b0 = refl;
   wrap-down = refl;
   wrap-up = refl;
   due-11 = refl;

@@ -96,6 +96,8 @@ pub record KnownResults : Type 0 where
   -- 0x40 to 0x0000, which is not its own mirror (document 02, Ask 2), and 0x81, which is
   pub control-40 : recordsAfterOpening map16 (samplesOf (writeOne 0 0x0000 0x40)) ≡ 1 ∷ 0x00 ∷ 0x00 ∷ 0x40 ∷ 0x00 ∷ 0 ∷ []
   pub control-81 : recordsAfterOpening map16 (samplesOf (writeOne 0 0x0000 0x81)) ≡ 1 ∷ 0x00 ∷ 0x00 ∷ 0x81 ∷ 0x00 ∷ 5 ∷ []
+  -- document 02, Ask 9: 0xB0 to 0x0001 shows the byte as given, and reads without bit 4
+  pub control-b0 : recordsAfterOpening map16 (samplesOf (writeOne 0 0x0001 0xB0)) ≡ 1 ∷ 0x00 ∷ 0x01 ∷ 0xB0 ∷ 0xA0 ∷ 3 ∷ []
   -- descending from 0x0000, ascending from 0x7FFF
   pub wrap-down : nextAddress false 0x0000 ≡ 0x7FFF
   pub wrap-up : nextAddress true 0x7FFF ≡ 0x0000

@@ -1,6 +1,6 @@
 -- What the program's functions cite of what came from standard input and of what the reader left.
 use mathlib.Core.Path.{_≡_, ap}
-use Prim.Native.Nat.{ℕ, _+_, _*_, _%_, _<_, _≤_}
+use Prim.Native.Nat.{ℕ, _+_, _*_, _/_, _%_, _<_, _≤_}
 use mathlib.Core.Bool.{_&&_}
 use mathlib.Core.List.{List}
 use native.Mathlib.Omega.{arith}
@@ -12,6 +12,8 @@ use Rattle.sizes.specs.Sizes.{recordSize}
 use Rattle.bits.proofs.Cases.{each, and-left, and-right}
 use Rattle.session.specs.declared.Session.{Session}
 use Rattle.registers.specs.Banks.{Banks}
+use Rattle.records.specs.Slow.{slowOf}
+use Rattle.records.proofs.SlowCount.{slow-most}
 use Rattle.run.specs.Reading.{World}
 use Rattle.run.proofs.Bound.{piece-bound}
 use Rattle.refusals.specs.Numbers.{openNumber, readNumber}
@@ -76,6 +78,15 @@ records-within m w samples records {count = count} e full =
 -- there are no more records than samples: a piece of 4,096 samples leaves 1,400 at most
 pub fewer-records : (count : ℕ) {got records samples : ℕ} → recordSize * count ≤ recordSpace → piece ≤ got → records ≤ samples → records + count ≤ samples + got
 fewer-records count few full h = omega arith
+
+-- no more of them ask for slow than there are
+pub slow-within : {n count : ℕ} (l : List ℕ) → n ≡ slowOf (take (recordSize * count) l) → recordSize * count ≤ recordSpace → length l ≡ recordSpace → n ≤ count
+slow-within {count = count} l e few full =
+    let part = take (recordSize * count) l in
+    omega (arith, slow-most (length part / recordSize) part, length-take-le (recordSize * count) l (omega arith))
+
+pub fewer-slow : {n count slow records : ℕ} → n ≤ count → slow ≤ records → slow + n ≤ records + count
+fewer-slow few h = omega arith
 
 -- what is known of a piece before it is written
 pub piece-bounds : (m : List ℕ) (w : World) (samples records : List ℕ) {number count : ℕ} {after : World} {left : List ℕ}

@@ -4,7 +4,7 @@
 // What a file holds is the system's, and no contract can say it. So the promises here are of how a reading ends, of what is told
 // beside it, and that no buffer is left.
 //
-// The buffers, with those of the calls, are at most 63,706 bytes together.
+// The buffers, with those of the calls, are at most 63,726 bytes together.
 ghost use mathlib.Core.Path.{_≡_};
 ghost use Prim.Native.Nat.{_<_, _≤_, min};
 ghost use Rattle.regmap.specs.Format.{countOf, mostCount};
@@ -18,6 +18,7 @@ mod output;
 use glance::Seen;
 use input::Filled;
 use input::MAP_SPACE;
+use records::count_slow;
 use regmap::MOST_COUNT;
 use session::Session;
 use sizes::RECORD;
@@ -85,10 +86,10 @@ fn refuse(to: i32, number: u8) -> End
 }
 
 // The end of a reading that has come to its last sample, once the line of it is written.
-fn close(to: i32, records: u64, samples: u64) -> End
+fn close(to: i32, records: u64, samples: u64, slow: u64) -> End
     ensures { λ r. ⌜ Known r ⌝ }
 {
-    if output::write_count_line(to, records, samples) {
+    if output::write_count_line(to, records, samples, slow) {
         return End::Done;
     }
     End::OutputFailed
@@ -111,6 +112,7 @@ fn read_trace(
     let mut records = [0u8; RECORD_SPACE];
     let mut record_count: u64 = 0;
     let mut sample_count: u64 = 0;
+    let mut slow_count: u64 = 0;
     let mut seen = glance::nothing_seen();
     while sample_count < u64::MAX - PIECE as u64 {
         let Filled::Bytes(got) = input::fill(from, &mut samples, 0, PIECE) else {
@@ -130,8 +132,9 @@ fn read_trace(
         seen = glance::look(seen, piece);
         record_count += count as u64;
         sample_count += got as u64;
+        slow_count += count_slow(&records[..RECORD * count]) as u64;
         if got < PIECE {
-            let end = close(to, record_count, sample_count);
+            let end = close(to, record_count, sample_count, slow_count);
             return ended(end, record_count, sample_count, seen);
         }
         session = answer.session;

@@ -2,6 +2,7 @@
 ghost use Prim.Native.Nat.{_≤_};
 ghost use lib.ListN.{length};
 use lines::LINE;
+use report::LAST_LINE;
 use sizes::RECORD;
 
 // The bytes for the lines that are written at a time, which are 400.
@@ -15,9 +16,9 @@ pub fn write_map_line(to: i32, n: usize) -> bool {
 }
 
 // Writes the last line.
-pub fn write_count_line(to: i32, records: u64, samples: u64) -> bool {
-    let mut line = [0u8; 64];
-    let count = report::put_count_line(records, samples, &mut line);
+pub fn write_count_line(to: i32, records: u64, samples: u64, slow: u64) -> bool {
+    let mut line = [0u8; LAST_LINE];
+    let count = report::put_count_line(records, samples, slow, &mut line);
     io::write_all(to, &line[..count])
 }
 

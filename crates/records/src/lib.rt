@@ -7,9 +7,13 @@ ghost use Rattle.sizes.specs.Sizes.{recordSize};
 ghost use Rattle.registers.specs.Banks.{banks};
 ghost use Rattle.records.specs.Records.{recordsIn, recordBytes, writeRecord, readRecord, abortRecord};
 ghost use Rattle.records.specs.Contracts.{Taking, Taken};
+
+mod slow;
+
 use session::Event;
 use settings::Settings;
 use sizes::RECORD;
+pub use slow::count_slow;
 use writing::Written;
 
 const WRITE: u8 = 1;

@@ -9,7 +9,7 @@ pub first-line : mapLine 16 ≡ bytesOf "map 16\n"
 unfolding mapLine decimalIn
 first-line = refl
 
-pub last-line : countLine 1 51 ≡ bytesOf "records 1 samples 51\n"
+pub last-line : countLine 1 51 0 ≡ bytesOf "records 1 samples 51 slow 0\n"
 unfolding countLine decimalIn
 last-line = refl
 

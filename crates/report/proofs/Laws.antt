@@ -32,18 +32,19 @@ placed-next {a} {b} {at} {old} p q = record {
 pub placed-byte : (b at : ℕ) (old : List ℕ) → Placed (b ∷ []) at old (set old at b) (at + 1)
 placed-byte b at old = record { place = refl; buffer = refl }
 
-two-numbers : (a m b c n d : List ℕ) → (a ++ m ++ b) ++ (c ++ n ++ d) ≡ a ++ m ++ (b ++ c) ++ n ++ d
-two-numbers a m b c n d = simp append-assoc
+three-numbers : (a l b c m d e n f : List ℕ) → (a ++ l ++ b) ++ ((c ++ m ++ d) ++ (e ++ n ++ f)) ≡ a ++ l ++ (b ++ c) ++ m ++ (d ++ e) ++ n ++ f
+three-numbers a l b c m d e n f = simp append-assoc
 
--- two words, each with its number, are the last line
-pub placed-counts : (records samples : ℕ) {at : ℕ} {old mid new : List ℕ} {i j : ℕ}
+-- three words, each with its number, are the last line
+pub placed-counts : (records samples slow : ℕ) {at : ℕ} {old mid later new : List ℕ} {i j k : ℕ}
     → Placed (bytesOf "records " ++ decimalOf records ++ bytesOf " ") at old mid i
-    → Placed (bytesOf "samples " ++ decimalOf samples ++ bytesOf "\n") i mid new j
-    → Placed (countLine records samples) at old new j
+    → Placed (bytesOf "samples " ++ decimalOf samples ++ bytesOf " ") i mid later j
+    → Placed (bytesOf "slow " ++ decimalOf slow ++ bytesOf "\n") j later new k
+    → Placed (countLine records samples slow) at old new k
 unfolding countLine
-placed-counts records samples {at} {old} {mid} {new} {i} {j} p q =
-    let text = two-numbers (bytesOf "records ") (decimalOf records) (bytesOf " ") (bytesOf "samples ") (decimalOf samples) (bytesOf "\n") in
-    subst (λ (l : List ℕ). Placed l at old new j) text (placed-next p q)
+placed-counts records samples slow {at} {old} {mid} {later} {new} {i} {j} {k} p q r =
+    let text = three-numbers (bytesOf "records ") (decimalOf records) (bytesOf " ") (bytesOf "samples ") (decimalOf samples) (bytesOf " ") (bytesOf "slow ") (decimalOf slow) (bytesOf "\n") in
+    subst (λ (l : List ℕ). Placed l at old new k) text (placed-next p (placed-next q r))
 
 -- a text at the start of a buffer
 pub placed-printed : {line old new : List ℕ} {n : ℕ} → n ≤ length old → Placed line 0 old new n → Printed line old new n

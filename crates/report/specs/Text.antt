@@ -16,9 +16,10 @@ linesOf (suc n) records = lineOf records ++ linesOf n (drop recordSize records)
 unfoldable pub mapLine : ℕ → List ℕ
 mapLine n = bytesOf "map " ++ decimalOf n ++ bytesOf "\n"
 
--- the last line, with the numbers of records and samples
-unfoldable pub countLine : ℕ → ℕ → List ℕ
-countLine records samples = bytesOf "records " ++ decimalOf records ++ bytesOf " samples " ++ decimalOf samples ++ bytesOf "\n"
+-- the last line, with the numbers of records and samples, and (document 02, Ask 9) of writes that ask for slow
+unfoldable pub countLine : ℕ → ℕ → ℕ → List ℕ
+countLine records samples slow =
+    bytesOf "records " ++ decimalOf records ++ bytesOf " samples " ++ decimalOf samples ++ bytesOf " slow " ++ decimalOf slow ++ bytesOf "\n"
 
 -- a refusal, with its number
 unfoldable pub refusedLine : ℕ → List ℕ

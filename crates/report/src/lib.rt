@@ -9,6 +9,9 @@ ghost use Rattle.report.specs.Put.{Placed, Printed, Listed};
 use lines::LINE;
 use sizes::RECORD;
 
+// The bytes of the last line at most: three words, each with its number of up to 20 digits and a byte to end it.
+pub const LAST_LINE: usize = 84;
+
 // The lines of as many records as there are and as fit; how many that is.
 pub fn put_lines(records: &[u8], out: &mut [u8]) -> usize
     ensures { λ r. ⌜ Listed (now (records .entry)) (now (out .entry)) (now (out .exit)) r ⌝ }
@@ -62,12 +65,13 @@ pub fn put_map_line(n: u64, out: &mut [u8; 64]) -> usize
     put_number(b"map ", n, b'\n', out, 0)
 }
 
-// The last line, with the numbers of records and samples; how many bytes it is.
-pub fn put_count_line(records: u64, samples: u64, out: &mut [u8; 64]) -> usize
-    ensures { λ r. ⌜ Printed (countLine records samples) (now (out .entry)) (now (out .exit)) r ⌝ }
+// The last line, with the numbers of records, of samples and of writes that ask for slow; how many bytes it is.
+pub fn put_count_line(records: u64, samples: u64, slow: u64, out: &mut [u8; LAST_LINE]) -> usize
+    ensures { λ r. ⌜ Printed (countLine records samples slow) (now (out .entry)) (now (out .exit)) r ⌝ }
 {
     let at = put_number(b"records ", records, b' ', out, 0);
-    put_number(b"samples ", samples, b'\n', out, at)
+    let at = put_number(b"samples ", samples, b' ', out, at);
+    put_number(b"slow ", slow, b'\n', out, at)
 }
 
 // The line of a refusal, with its number; how many bytes it is.

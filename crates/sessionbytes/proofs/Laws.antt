@@ -66,7 +66,6 @@ session-back s = λ i. record {
     sdo = flag-back (s .settings .sdo) i;
     single = flag-back (s .settings .single) i;
     readback = flag-back (s .settings .readback) i;
-    slow = flag-back (s .settings .slow) i;
   };
   used = record {
     lsb = flag-back (s .used .lsb) i;
@@ -111,14 +110,14 @@ bytes-back b h small =
     let t = every-true (eqb (length b) sessionSize ∷ fieldTests b) h in
     let f = t .1 .1 in
     let g = f .1 .1 .1 in
-    let u = g .1 .1 .1 .1 .1 .1 .1 in
+    let u = g .1 .1 .1 .1 .1 .1 in
     let at : ℕ → ℕ = λ i. getD b i 0 in
     (λ i. (sym (eqb-true (at 0) layoutVersion (t .1 .0)) i)
     ∷ bit-back (at 1) (f .0) i ∷ bit-back (at 2) (f .1 .0) i ∷ number-back (at 3) (f .1 .1 .0) i
     ∷ at 4 ∷ high-back (at 5) (at 6) (small 6) i ∷ low-back (at 5) (at 6) (small 6) i
     ∷ high-back (at 7) (at 8) (small 8) i ∷ low-back (at 7) (at 8) (small 8) i ∷ bit-back (at 9) (g .0) i
     ∷ bit-back (at 10) (g .1 .0) i ∷ bit-back (at 11) (g .1 .1 .0) i ∷ bit-back (at 12) (g .1 .1 .1 .0) i
-    ∷ bit-back (at 13) (g .1 .1 .1 .1 .0) i ∷ bit-back (at 14) (g .1 .1 .1 .1 .1 .0) i ∷ bit-back (at 15) (g .1 .1 .1 .1 .1 .1 .0) i
-    ∷ bit-back (at 16) (u .0) i ∷ bit-back (at 17) (u .1 .0) i ∷ bit-back (at 18) (u .1 .1 .0) i ∷ bit-back (at 19) (u .1 .1 .1 .0) i
+    ∷ bit-back (at 13) (g .1 .1 .1 .1 .0) i ∷ bit-back (at 14) (g .1 .1 .1 .1 .1 .0) i
+    ∷ bit-back (at 15) (u .0) i ∷ bit-back (at 16) (u .1 .0) i ∷ bit-back (at 17) (u .1 .1 .0) i ∷ bit-back (at 18) (u .1 .1 .1 .0) i
     ∷ [])
     ∙ sym (all-listed sessionSize b 0 (eqb-true (length b) sessionSize (t .0)))

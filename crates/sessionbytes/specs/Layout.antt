@@ -14,11 +14,11 @@ use Rattle.session.specs.declared.Session.{Session}
 
 -- how many bytes a session has
 abbrev pub sessionSize : ℕ
-sessionSize = 20
+sessionSize = 19
 
 -- the version of the layout: another layout has another one
 abbrev pub layoutVersion : ℕ
-layoutVersion = 1
+layoutVersion = 2
 
 -- 0 rest, 1 instruction, 2 data
 abbrev pub phaseByte : Phase → ℕ
@@ -32,7 +32,7 @@ phaseOf x = cond (eqb x 0) Rest (cond (eqb x 1) Instruction Data)
 -- the settings, a byte each
 abbrev pub settingsBytes : Settings → List ℕ
 settingsBytes t =
-    bitOf (t .lsb) ∷ bitOf (t .ascending) ∷ bitOf (t .sdo) ∷ bitOf (t .single) ∷ bitOf (t .readback) ∷ bitOf (t .slow) ∷ []
+    bitOf (t .lsb) ∷ bitOf (t .ascending) ∷ bitOf (t .sdo) ∷ bitOf (t .single) ∷ bitOf (t .readback) ∷ []
 
 -- the settings in use
 abbrev pub usedBytes : InUse → List ℕ
@@ -55,8 +55,8 @@ abbrev pub fieldTests : List ℕ → List Bool
 fieldTests b =
     eqb (byteAt b 0) layoutVersion
     ∷ leb (byteAt b 1) 1 ∷ leb (byteAt b 2) 1 ∷ leb (byteAt b 3) 2 ∷ leb (byteAt b 9) 1
-    ∷ leb (byteAt b 10) 1 ∷ leb (byteAt b 11) 1 ∷ leb (byteAt b 12) 1 ∷ leb (byteAt b 13) 1 ∷ leb (byteAt b 14) 1 ∷ leb (byteAt b 15) 1
-    ∷ leb (byteAt b 16) 1 ∷ leb (byteAt b 17) 1 ∷ leb (byteAt b 18) 1 ∷ leb (byteAt b 19) 1
+    ∷ leb (byteAt b 10) 1 ∷ leb (byteAt b 11) 1 ∷ leb (byteAt b 12) 1 ∷ leb (byteAt b 13) 1 ∷ leb (byteAt b 14) 1
+    ∷ leb (byteAt b 15) 1 ∷ leb (byteAt b 16) 1 ∷ leb (byteAt b 17) 1 ∷ leb (byteAt b 18) 1
     ∷ []
 
 -- Whether bytes are a session: as many as it has, and each field is one.
@@ -87,7 +87,6 @@ sessionOf b = record {
     sdo = flagAt b 12;
     single = flagAt b 13;
     readback = flagAt b 14;
-    slow = flagAt b 15;
   };
-  used = record { lsb = flagAt b 16; ascending = flagAt b 17; sdo = flagAt b 18; single = flagAt b 19 };
+  used = record { lsb = flagAt b 15; ascending = flagAt b 16; sdo = flagAt b 17; single = flagAt b 18 };
 }

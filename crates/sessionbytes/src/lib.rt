@@ -8,10 +8,10 @@ use settings::InUse;
 use settings::Settings;
 
 // How many bytes a session has.
-pub const SIZE: usize = 20;
+pub const SIZE: usize = 19;
 
 // The version of the layout: the first byte.
-const VERSION: u8 = 1;
+const VERSION: u8 = 2;
 
 // The byte of a phase.
 fn phase_byte(phase: Phase) -> u8
@@ -65,7 +65,6 @@ pub fn bytes_of(session: Session) -> [u8; SIZE]
         session.settings.sdo as u8,
         session.settings.single as u8,
         session.settings.readback as u8,
-        session.settings.slow as u8,
         session.used.lsb as u8,
         session.used.ascending as u8,
         session.used.sdo as u8,
@@ -94,7 +93,6 @@ pub fn are_session(bytes: &[u8]) -> bool
         & (bytes[16] <= 1)
         & (bytes[17] <= 1)
         & (bytes[18] <= 1)
-        & (bytes[19] <= 1)
 }
 
 // The session that bytes are.
@@ -116,13 +114,12 @@ pub fn session_of(bytes: &[u8]) -> Session
             sdo: bytes[12] == 1,
             single: bytes[13] == 1,
             readback: bytes[14] == 1,
-            slow: bytes[15] == 1,
         },
         used: InUse {
-            lsb: bytes[16] == 1,
-            ascending: bytes[17] == 1,
-            sdo: bytes[18] == 1,
-            single: bytes[19] == 1,
+            lsb: bytes[15] == 1,
+            ascending: bytes[16] == 1,
+            sdo: bytes[17] == 1,
+            single: bytes[18] == 1,
         },
     }
 }

@@ -20,7 +20,7 @@ nextAddress ascending a = cond ascending ((a + 1) % 0x8000) ((a + 0x7FFF) % 0x80
 abbrev pub resets : ℕ → Bool
 resets v = bitAt v 7
 
--- three settings are taken from such a byte; a soft reset clears the other three
+-- three settings are taken from such a byte; a soft reset clears the other two
 abbrev pub configured : Settings → ℕ → Settings
 configured t v = record {
   lsb = bitAt v 6;
@@ -28,10 +28,9 @@ configured t v = record {
   sdo = bitAt v 4;
   single = cond (resets v) false (t .single);
   readback = cond (resets v) false (t .readback);
-  slow = cond (resets v) false (t .slow);
 }
 
--- 0x0001: bit 7 single instruction, bit 5 buffer readback, bit 4 slow; soft reset 1 and 0 are ignored.
+-- 0x0001, without the slow setting (document 02, Ask 9): bit 7 single instruction, bit 5 buffer readback; the other bits are ignored.
 abbrev pub configuredB : Settings → ℕ → Settings
 configuredB t v = record {
   lsb = t .lsb;
@@ -39,7 +38,6 @@ configuredB t v = record {
   sdo = t .sdo;
   single = bitAt v 7;
   readback = bitAt v 5;
-  slow = bitAt v 4;
 }
 
 -- the settings after v is written to an address
@@ -49,9 +47,9 @@ settingsAfter t address v =
     (cond (eqb address 0x0001) (configuredB t v)
     t)
 
--- What a control register reads as: 0x0000 the settings on both bits of each pair; 0x0001 its three bits; 0x000F zero.
+-- What a control register reads as: 0x0000 the settings on both bits of each pair; 0x0001 its two bits; 0x000F zero.
 unfoldable pub controlReading : Settings → ℕ → ℕ
 controlReading t address =
     cond (eqb address 0x0000) (bitOf (t .lsb) * 0x42 + bitOf (t .ascending) * 0x24 + bitOf (t .sdo) * 0x18)
-    (cond (eqb address 0x0001) (bitOf (t .single) * 0x80 + bitOf (t .readback) * 0x20 + bitOf (t .slow) * 0x10)
+    (cond (eqb address 0x0001) (bitOf (t .single) * 0x80 + bitOf (t .readback) * 0x20)
     0)

@@ -36,14 +36,12 @@ impl Settings {
             if asks_reset(v) {
                 self.single = false;
                 self.readback = false;
-                self.slow = false;
             }
             return self;
         }
         if address == 0x0001 {
             self.single = bit_at(v, 7);
             self.readback = bit_at(v, 5);
-            self.slow = bit_at(v, 4);
         }
         self
     }
@@ -56,7 +54,7 @@ impl Settings {
             return flag(self.lsb, 0x42) + flag(self.ascending, 0x24) + flag(self.sdo, 0x18);
         }
         if address == 0x0001 {
-            return flag(self.single, 0x80) + flag(self.readback, 0x20) + flag(self.slow, 0x10);
+            return flag(self.single, 0x80) + flag(self.readback, 0x20);
         }
         0
     }

@@ -1,4 +1,4 @@
-// The settings of the serial control interface: the six of a session, the four that an instruction has in use, and which way they
+// The settings of the serial control interface: the five of a session, the four that an instruction has in use, and which way they
 // send the address. What a write to a control register makes of them, and what it reads as, is in control.rt.
 ghost use mathlib.Core.Path.{_≡_};
 ghost use Prim.Native.Nat.{_<_};
@@ -14,7 +14,6 @@ pub struct Settings {
     pub sdo: bool,
     pub single: bool,
     pub readback: bool,
-    pub slow: bool,
 }
 
 // The settings in use: those that an instruction took when it started.

@@ -33,7 +33,6 @@ pub fn opened() -> Session
             sdo: false,
             single: false,
             readback: false,
-            slow: false,
         },
         used: used,
     }

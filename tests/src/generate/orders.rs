@@ -14,7 +14,7 @@ pub fn chip_at_rest(random: &mut Random, settings: u64) -> Chip {
     let mut chip = Chip::opened(&good_map(random, count));
     chip.active = random.bytes(count);
     chip.buffer = random.bytes(count);
-    let others = [Settings::SDO_ACTIVE, Settings::BUFFER_READBACK, Settings::SLOW];
+    let others = [Settings::SDO_ACTIVE, Settings::BUFFER_READBACK];
     let at_will = others.into_iter().filter(|_| random.coin());
     let settings = at_will.fold(settings_of(settings), Settings::with);
     let levels = CSB | random.pick(&[0, SCLK]);

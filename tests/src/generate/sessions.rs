@@ -8,8 +8,8 @@ use crate::second::settings::Settings;
 pub const USABLE: [Settings; 4] =
     [Settings::LSB_FIRST, Settings::ASCENDING, Settings::SDO_ACTIVE, Settings::SINGLE_INSTRUCTION];
 
-/// The settings that an instruction does not take.
-const OTHERS: [Settings; 2] = [Settings::BUFFER_READBACK, Settings::SLOW];
+/// The setting that an instruction does not take.
+const OTHERS: [Settings; 1] = [Settings::BUFFER_READBACK];
 
 /// A sound session of any kind.
 pub fn sound_session(random: &mut Random) -> Session {

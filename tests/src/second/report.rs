@@ -3,9 +3,10 @@
 use std::io::{self, Read, Write};
 
 use super::map::{whole_length, RegisterMap};
-use super::reader::{self, most_records, RECORD};
+use super::reader::{self, most_records, RECORD, WRITE};
 use super::registers::Registers;
 use super::session::Session;
+use super::settings::asks_slow;
 
 pub const PIECE: usize = 4_096;
 const LARGEST_COUNT: usize = 8_192;
@@ -48,7 +49,7 @@ fn report_trace(
     let mut samples = [0; PIECE];
     let mut records = [0; RECORD * most_records(PIECE)];
     let mut text = [0; LINE * most_records(PIECE)];
-    let (mut record_count, mut sample_count) = (0u64, 0u64);
+    let (mut record_count, mut sample_count, mut slow_count) = (0u64, 0u64, 0u64);
     loop {
         let length = fill(&mut input, &mut samples)?;
         let answer =
@@ -56,11 +57,16 @@ fn report_trace(
         if answer.number != 0 {
             return writeln!(output, "refused {}", answer.number);
         }
-        output.write_all(lines(&records[..RECORD * answer.count], &mut text))?;
+        let (found, _) = records[..RECORD * answer.count].as_chunks();
+        output.write_all(lines(found, &mut text))?;
+        slow_count += found.iter().filter(|record| is_slow_write(record)).count() as u64;
         record_count += answer.count as u64;
         sample_count += length as u64;
         if length < PIECE {
-            return writeln!(output, "records {record_count} samples {sample_count}");
+            return writeln!(
+                output,
+                "records {record_count} samples {sample_count} slow {slow_count}"
+            );
         }
     }
 }
@@ -91,9 +97,13 @@ fn fill(input: &mut impl Read, space: &mut [u8]) -> io::Result<usize> {
     Ok(length)
 }
 
+/// Whether a record is that of a write that asks for slow.
+fn is_slow_write(&[kind, high, low, v, ..]: &[u8; RECORD]) -> bool {
+    kind == WRITE && asks_slow(u16::from_be_bytes([high, low]), v)
+}
+
 /// A line for each record, put at the start of the text.
-fn lines<'a>(records: &[u8], text: &'a mut [u8]) -> &'a [u8] {
-    let (records, _) = records.as_chunks::<RECORD>();
+fn lines<'a>(records: &[[u8; RECORD]], text: &'a mut [u8]) -> &'a [u8] {
     for (record, line) in records.iter().zip(text.chunks_exact_mut(LINE)) {
         write_line(record, line.try_into().expect("chunks have the length of a line"));
     }

@@ -1,4 +1,6 @@
-//! The six settings, as the registers 0x0000 and 0x0001 hold and show them.
+//! The five settings, as the registers 0x0000 and 0x0001 hold and show them.
+//! Document 01's sixth, slow, is gone (document 02, Ask 9): only the count of
+//! writes that ask for it is left.
 
 pub const CONFIGURATION_A: u16 = 0x0000;
 pub const CONFIGURATION_B: u16 = 0x0001;
@@ -9,18 +11,15 @@ pub struct Settings(u8);
 
 /// Settings with their bits in a register: any of the bits sets the setting,
 /// and the setting shows on all of them.
-type Layout = [(Settings, u8); 3];
+type Layout = &'static [(Settings, u8)];
 
-const LAYOUT_A: Layout = [
+const LAYOUT_A: Layout = &[
     (Settings::LSB_FIRST, 0b0100_0010),
     (Settings::ASCENDING, 0b0010_0100),
     (Settings::SDO_ACTIVE, 0b0001_1000),
 ];
-const LAYOUT_B: Layout = [
-    (Settings::SINGLE_INSTRUCTION, 0b1000_0000),
-    (Settings::BUFFER_READBACK, 0b0010_0000),
-    (Settings::SLOW, 0b0001_0000),
-];
+const LAYOUT_B: Layout =
+    &[(Settings::SINGLE_INSTRUCTION, 0b1000_0000), (Settings::BUFFER_READBACK, 0b0010_0000)];
 
 impl Settings {
     pub const NONE: Settings = Settings(0);
@@ -29,7 +28,6 @@ impl Settings {
     pub const SDO_ACTIVE: Settings = Settings(1 << 2);
     pub const SINGLE_INSTRUCTION: Settings = Settings(1 << 3);
     pub const BUFFER_READBACK: Settings = Settings(1 << 4);
-    pub const SLOW: Settings = Settings(1 << 5);
 
     #[inline(always)]
     pub fn has(self, one: Settings) -> bool {
@@ -43,7 +41,7 @@ impl Settings {
     /// The four that an instruction takes in use.
     #[inline(always)]
     pub(super) fn usable(self) -> Settings {
-        Settings(self.0 & 0b001111)
+        Settings(self.0 & 0b01111)
     }
 
     /// Those of a register's settings that were set before.
@@ -81,6 +79,12 @@ impl Settings {
             _ => 0,
         }
     }
+}
+
+/// Whether this byte, written to this address, asks for the slow setting that
+/// there is no more.
+pub(super) fn asks_slow(address: u16, v: u8) -> bool {
+    address == CONFIGURATION_B && v & 0b0001_0000 != 0
 }
 
 /// Whether a byte reads the same from both ends. Any other byte does nothing at

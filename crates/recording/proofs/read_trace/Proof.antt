@@ -7,21 +7,22 @@ use lib.ListN.{length}
 use lib.Seq.{length-take-le}
 use borrow.Author.Needs.{needs}
 use Rattle.recording.specs.Sizes.{piece, recordSpace}
-use Rattle.recording.proofs.Laws.{within-bytes, few-taken, records-within, fewer-records, piece-bounds}
+use Rattle.recording.proofs.Laws.{within-bytes, few-taken, records-within, fewer-records, slow-within, fewer-slow, piece-bounds}
 use Rattle.recording.proofs.Looking.{good-within}
 use Rattle.recording.proofs.read_trace.Statement.{statement}
 use Rattle.recording.proofs.read_trace.Tie as tie
 
 abbrev Inv-loop : tie.InvT-loop
-Inv-loop map session₀ active₀ buffer₀ from to samples₀ records₀ record-count₀ sample-count₀ seen₀ session active buffer samples records record-count sample-count seen =
+Inv-loop map session₀ active₀ buffer₀ from to samples₀ records₀ record-count₀ sample-count₀ slow-count₀ seen₀ session active buffer samples records record-count sample-count slow-count seen =
     (length active ≡ length active₀)
     × (length buffer ≡ length buffer₀)
     × (length samples ≡ piece)
     × (length records ≡ recordSpace)
     × (record-count ≤ sample-count)
+    × (slow-count ≤ record-count)
 
 abbrev μ-loop : tie.MeasureT-loop
-μ-loop map session₀ active₀ buffer₀ from to samples₀ records₀ record-count₀ sample-count₀ seen₀ session active buffer samples records record-count sample-count seen =
+μ-loop map session₀ active₀ buffer₀ from to samples₀ records₀ record-count₀ sample-count₀ slow-count₀ seen₀ session active buffer samples records record-count sample-count slow-count seen =
     0xFFFF_FFFF_FFFF_FFFF - sample-count
 
 nothing-seen-requires : tie.Need-nothing-seen-requires Inv-loop μ-loop
@@ -156,6 +157,35 @@ add-sample-count c =
     let few = within-bytes (g .got .given .1) (f .ensures) in
     omega (arith, g .before .before .before .before .before .loop-test .taken)
 
+mul-records : tie.Need-mul-records Inv-loop μ-loop
+mul-records c =
+    let r = c .before .before .before .before .before .before .before .before .before .before in
+    omega (arith, records-within _ _ _ _ (r .read-tested .ensures) (r .before .before .before .before .before .before .before .before .before .before .before .before .loop .inv .3))
+
+array-share-prefix-records : tie.Need-array-share-prefix-records Inv-loop μ-loop
+array-share-prefix-records c =
+    let r = c .before .before .before .before .before .before .before .before .before .before in
+    let full = r .before .before .before .before .before .before .before .before .before .before .before .before .loop .inv .3 in
+    omega (arith, records-within _ _ _ _ (r .read-tested .ensures) full, r .read-tested .kept .1 .1 .1 .1 .1 .0, full)
+
+slice-aggregate-count-slow : tie.Need-slice-aggregate-count-slow Inv-loop μ-loop
+slice-aggregate-count-slow c =
+    let r = c .before .before .before .before .before .before .before .before .before .before .before in
+    let full = r .before .before .before .before .before .before .before .before .before .before .before .before .loop .inv .3 in
+    sym (length-take-le _ _ (omega (arith, records-within _ _ _ _ (r .read-tested .ensures) full, r .read-tested .kept .1 .1 .1 .1 .1 .0, full)))
+
+count-slow-requires : tie.Need-count-slow-requires Inv-loop μ-loop
+count-slow-requires c κs = tt
+
+add-slow-count : tie.Need-add-slow-count Inv-loop μ-loop
+add-slow-count c =
+    let r = c .before .before .before .before .before .before .before .before .before .before .before .before in
+    let turn = r .before .before .before .before .before .before .before .before .before .before .before in
+    let h = turn .before .loop .inv in
+    let within = records-within _ _ _ _ (r .read-tested .ensures) (h .3) in
+    let slow = slow-within _ (c .count-slow .ensures) within (r .read-tested .kept .1 .1 .1 .1 .1 .0 ∙ h .3) in
+    omega (arith, within, slow, turn .loop-test .taken, h .4, h .5)
+
 close-requires : tie.Need-close-requires Inv-loop μ-loop
 close-requires c κs = tt
 
@@ -164,27 +194,29 @@ ended-requires-4 c κs = tt
 
 same-length-7 : tie.Need-same-length-7 Inv-loop μ-loop
 same-length-7 c =
-    let r = c .before .before .before .before .before .before .before .before .before .before .before .before .before in
+    let r = c .before .before .before .before .before .before .before .before .before .before .before .before .before .before .before in
     r .read-tested .kept .1 .1 .0 ∙ r .before .before .before .before .before .before .before .before .before .before .before .before .loop .inv .0
 
 same-length-8 : tie.Need-same-length-8 Inv-loop μ-loop
 same-length-8 c =
-    let r = c .before .before .before .before .before .before .before .before .before .before .before .before .before in
+    let r = c .before .before .before .before .before .before .before .before .before .before .before .before .before .before .before in
     r .read-tested .kept .1 .1 .1 .0 ∙ r .before .before .before .before .before .before .before .before .before .before .before .before .loop .inv .1
 
 returns-4 : tie.Need-returns-4 Inv-loop μ-loop
 returns-4 c = rw (c .ended4 .ensures) (c .before .close .ensures)
 
 loop-less : tie.Need-loop-less Inv-loop μ-loop
-loop-less c = omega (arith, c .before .before .before .before .before .before .before .before .before .before .before .before .before .before .before .before .before .before .before .before .before .before .before .loop-test .taken, c .before .if3 .left)
+loop-less c = omega (arith, c .before .before .before .before .before .before .before .before .before .before .before .before .before .before .before .before .before .before .before .before .before .before .before .before .before .loop-test .taken, c .before .if3 .left)
 
 loop-again : tie.Need-loop-again Inv-loop μ-loop
 loop-again c =
-    let r = c .before .before .before .before .before .before .before .before .before .before .before .before in
+    let r = c .before .before .before .before .before .before .before .before .before .before .before .before .before .before in
     let f = r .before .before .before .before .before .before .before .before .before .fill in
     let h = r .before .before .before .before .before .before .before .before .before .before .before .before .loop .inv in
     let k = r .read-tested .kept .1 .1 in
-    (k .0 ∙ h .0, k .1 .0 ∙ h .1, f .kept .1 .0 ∙ h .2, k .1 .1 .1 .0 ∙ h .3, fewer-records _ (records-within _ _ _ _ (r .read-tested .ensures) (h .3)) (c .before .if3 .left) (h .4))
+    let within = records-within _ _ _ _ (r .read-tested .ensures) (h .3) in
+    let slow = slow-within _ (c .before .before .count-slow .ensures) within (k .1 .1 .1 .0 ∙ h .3) in
+    (k .0 ∙ h .0, k .1 .0 ∙ h .1, f .kept .1 .0 ∙ h .2, k .1 .1 .1 .0 ∙ h .3, fewer-records _ within (c .before .if3 .left) (h .4), fewer-slow slow (h .5))
 
 ended-requires-5 : tie.Need-ended-requires-5 Inv-loop μ-loop
 ended-requires-5 c κs = tt
@@ -236,6 +268,11 @@ read-trace-spec =
     look-requires
     add-record-count
     add-sample-count
+    mul-records
+    array-share-prefix-records
+    slice-aggregate-count-slow
+    count-slow-requires
+    add-slow-count
     close-requires
     ended-requires-4
     same-length-7

@@ -1,4 +1,4 @@
--- `report::put_count_line` meets its contract: two words, each with its number, one after the other.
+-- `report::put_count_line` meets its contract: three words, each with its number, one after the other.
 use native.Mathlib.Omega.{arith}
 use Rattle.report.proofs.Laws.{number-length, placed-counts, placed-printed}
 use borrow.Author.Needs.{needs}
@@ -17,12 +17,21 @@ slice-aggregate-put-number-2 c = search needs
 put-number-requires-2 : tie.Need-put-number-requires-2
 put-number-requires-2 c κs = omega (arith, number-length (c .before .before .before .before .before .args .records) 32)
 
+slice-aggregate-put-number-3 : tie.Need-slice-aggregate-put-number-3
+slice-aggregate-put-number-3 c = search needs
+
+put-number-requires-3 : tie.Need-put-number-requires-3
+put-number-requires-3 c κs =
+    let a = c .before .before .before .before .before .before .before .before .args in
+    omega (arith, number-length (a .records) 32, number-length (a .samples) 32)
+
 returns : tie.Need-returns
 returns c =
-    let c₁ = c .before .before .before in
+    let c₂ = c .before .before .before in
+    let c₁ = c₂ .before .before .before in
     let a = c₁ .before .before .before .args in
-    let line = placed-counts (a .records) (a .samples) (c₁ .put-number .ensures) (c .put-number2 .ensures) in
-    placed-printed (omega (arith, number-length (a .records) 32, number-length (a .samples) 10)) line
+    let line = placed-counts (a .records) (a .samples) (a .slow) (c₁ .put-number .ensures) (c₂ .put-number2 .ensures) (c .put-number3 .ensures) in
+    placed-printed (omega (arith, number-length (a .records) 32, number-length (a .samples) 32, number-length (a .slow) 10)) line
 
 pub put-count-line-spec : {M : Type 1} → statement M
 put-count-line-spec =
@@ -32,4 +41,6 @@ put-count-line-spec =
     put-number-requires
     slice-aggregate-put-number-2
     put-number-requires-2
+    slice-aggregate-put-number-3
+    put-number-requires-3
     returns)

@@ -56,12 +56,9 @@ cast-t22 c = search needs
 cast-t23 : tie.Need-cast-t23
 cast-t23 c = search needs
 
-cast-t24 : tie.Need-cast-t24
-cast-t24 c = search needs
-
 returns : tie.Need-returns
 unfolding sessionBytes
-returns c = rw (c .before .before .before .before .before .before .before .before .before .before .before .before .before .before .before .phase-byte .ensures) (simp flag-byte)
+returns c = rw (c .before .before .before .before .before .before .before .before .before .before .before .before .before .before .phase-byte .ensures) (simp flag-byte)
 
 pub bytes-of-spec : {M : Type 1} → statement M
 bytes-of-spec =
@@ -84,5 +81,4 @@ bytes-of-spec =
     cast-t21
     cast-t22
     cast-t23
-    cast-t24
     returns)

@@ -55,8 +55,8 @@ shared-slice-read-t36 c = search needs
 shared-slice-read-t39 : tie.Need-shared-slice-read-t39
 shared-slice-read-t39 c = search needs
 
-shared-slice-read-t42 : tie.Need-shared-slice-read-t42
-shared-slice-read-t42 c = search needs
+shared-slice-read-t43 : tie.Need-shared-slice-read-t43
+shared-slice-read-t43 c = search needs
 
 shared-slice-read-t46 : tie.Need-shared-slice-read-t46
 shared-slice-read-t46 c = search needs
@@ -67,13 +67,10 @@ shared-slice-read-t49 c = search needs
 shared-slice-read-t52 : tie.Need-shared-slice-read-t52
 shared-slice-read-t52 c = search needs
 
-shared-slice-read-t55 : tie.Need-shared-slice-read-t55
-shared-slice-read-t55 c = search needs
-
 returns : tie.Need-returns
 unfolding sessionOf
 returns c =
-    let two = c .before .before .before .before .before .before .before .before .before .before .before in
+    let two = c .before .before .before .before .before .before .before .before .before .before in
     let one = two .before .before .before in
     rw (two .word2 .ensures, one .word .ensures, one .before .before .before .before .phase-of .ensures)
 
@@ -98,9 +95,8 @@ session-of-spec =
     shared-slice-read-t33
     shared-slice-read-t36
     shared-slice-read-t39
-    shared-slice-read-t42
+    shared-slice-read-t43
     shared-slice-read-t46
     shared-slice-read-t49
     shared-slice-read-t52
-    shared-slice-read-t55
     returns)

@@ -19,7 +19,6 @@ configuredBy t lsb ascending sdo reset = record {
   sdo = sdo;
   single = cond reset false (t .single);
   readback = cond reset false (t .readback);
-  slow = cond reset false (t .slow);
 }
 
 configured-by : (t : Settings) (v : ℕ) {lsb ascending sdo reset : Bool}
@@ -28,20 +27,18 @@ configured-by : (t : Settings) (v : ℕ) {lsb ascending sdo reset : Bool}
 configured-by t v e f g h = λ i. configuredBy t (e i) (f i) (g i) (h i)
 
 -- what 0x0001 makes of the settings, by the bits of the byte
-abbrev configuredBBy : Settings → Bool → Bool → Bool → Settings
-configuredBBy t single readback slow = record {
+abbrev configuredBBy : Settings → Bool → Bool → Settings
+configuredBBy t single readback = record {
   lsb = t .lsb;
   ascending = t .ascending;
   sdo = t .sdo;
   single = single;
   readback = readback;
-  slow = slow;
 }
 
-configured-b-by : (t : Settings) (v : ℕ) {single readback slow : Bool}
-    → single ≡ bitAt v 7 → readback ≡ bitAt v 5 → slow ≡ bitAt v 4
-    → configuredBBy t single readback slow ≡ configuredB t v
-configured-b-by t v e f g = λ i. configuredBBy t (e i) (f i) (g i)
+configured-b-by : (t : Settings) (v : ℕ) {single readback : Bool}
+    → single ≡ bitAt v 7 → readback ≡ bitAt v 5 → configuredBBy t single readback ≡ configuredB t v
+configured-b-by t v e f = λ i. configuredBBy t (e i) (f i)
 
 is-mirror-requires : tie.Need-is-mirror-requires
 is-mirror-requires c κs = search needs
@@ -90,16 +87,13 @@ bit-at-requires-4 c κs = search needs
 bit-at-requires-5 : tie.Need-bit-at-requires-5
 bit-at-requires-5 c κs = search needs
 
-bit-at-requires-6 : tie.Need-bit-at-requires-6
-bit-at-requires-6 c κs = search needs
-
 returns-4 : tie.Need-returns-4
 unfolding settingsAfter
 returns-4 c =
-    let b = c .before .before .before .before in
+    let b = c .before .before .before in
     no _ (ne-eqb _ _ (b .if1 .left))
-    (yes _ (eq-eqb _ _ (c .before .before .before .if4 .taken))
-    (configured-b-by (b .before .args .self) _ (c .before .before .bit-at4 .ensures) (c .before .bit-at5 .ensures) (c .bit-at6 .ensures)))
+    (yes _ (eq-eqb _ _ (c .before .before .if4 .taken))
+    (configured-b-by (b .before .args .self) _ (c .before .bit-at4 .ensures) (c .bit-at5 .ensures)))
 
 returns-5 : tie.Need-returns-5
 unfolding settingsAfter
@@ -119,6 +113,5 @@ after-spec =
     returns-3
     bit-at-requires-4
     bit-at-requires-5
-    bit-at-requires-6
     returns-4
     returns-5)

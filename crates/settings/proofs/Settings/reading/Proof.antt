@@ -1,4 +1,4 @@
--- `Settings::reading` meets its contract: the flags of one register are at most 0xB0 together, and their sum is the reading.
+-- `Settings::reading` meets its contract: the flags of one register are at most 0xA0 together, and their sum is the reading.
 use Prim.Native.Nat.{_+_}
 use mathlib.Core.Path.{refl}
 use native.Mathlib.Omega.{arith}
@@ -46,20 +46,12 @@ add-result-3 c =
     let t = c .before .before .before .before .args .self in
     omega (arith, flag-le (t .single) 0x80, flag-le (t .readback) 0x20)
 
-flag-requires-6 : tie.Need-flag-requires-6
-flag-requires-6 c κs = search needs
-
-add-result-4 : tie.Need-add-result-4
-add-result-4 c =
-    let t = c .before .before .before .before .before .args .self in
-    omega (arith, flag-le (t .single) 0x80, flag-le (t .readback) 0x20, flag-le (t .slow) 0x10)
-
 returns-2 : tie.Need-returns-2
 unfolding controlReading
 returns-2 c =
-    no _ (ne-eqb _ _ (c .before .before .before .before .if1 .left))
-    (yes _ (eq-eqb _ _ (c .before .before .before .if2 .taken))
-    (λ i. c .before .before .flag4 .ensures i + c .before .flag5 .ensures i + c .flag6 .ensures i))
+    no _ (ne-eqb _ _ (c .before .before .before .if1 .left))
+    (yes _ (eq-eqb _ _ (c .before .before .if2 .taken))
+    (λ i. c .before .flag4 .ensures i + c .flag5 .ensures i))
 
 returns-3 : tie.Need-returns-3
 unfolding controlReading
@@ -78,7 +70,5 @@ reading-spec =
     flag-requires-4
     flag-requires-5
     add-result-3
-    flag-requires-6
-    add-result-4
     returns-2
     returns-3)
