@@ -10,7 +10,7 @@
 #include <stdio.h>
 #include <stdlib.h>
 
-enum { PIECE = 4096, RECORD = 6, MOST_MAP = 5 + 3 * 8192 };
+enum { PIECE = 4096, MOST_MAP = 5 + 3 * 8192 };
 
 /* What is read: a map, and what goes from call to call. */
 static uint8_t map[MOST_MAP + 1];
@@ -40,7 +40,7 @@ static void open_map(FILE *file)
 /* Reads one piece; first is the number of its first sample in the recording. */
 static void read_piece(const uint8_t *samples, size_t length, unsigned long first)
 {
-    uint8_t record[RECORD];
+    uint8_t record[COUPLINGNUT_RECORD_SIZE];
     uint64_t count, taken;
     size_t at;
 
@@ -48,8 +48,8 @@ static void read_piece(const uint8_t *samples, size_t length, unsigned long firs
         accept(couplingnut_next_record(map, map_length, &session, active, registers, buffer, registers, samples + at, length - at, record,
                                        sizeof record, &count, &taken));
         if (count == 1) {
-            printf("%lu: %c %02X%02X %02X %02X %u\n", first + (unsigned long)(at + taken), "?WRC"[record[0]], record[1], record[2],
-                   record[3], record[4], record[5]);
+            printf("%lu: %c %02X%02X %02X %02X %u %02X\n", first + (unsigned long)(at + taken), "?WRC"[record[0]], record[1], record[2],
+                   record[3], record[4], record[5], record[6]);
         }
     }
 }

@@ -108,8 +108,8 @@ static uint32_t next_into(struct recording *r, const uint8_t *samples, size_t le
                                    samples, length, r->records, room, &r->count, &r->taken);
 }
 
-/* The samples of a write of 0x3C and 0x5A to 0x000A and 0x0009, and the records of it: 0x0009 has mask 0. */
-static const uint8_t written[] = {1, 0x00, 0x0A, 0x3C, 0x3C, 1, 1, 0x00, 0x09, 0x5A, 0x00, 1};
+/* The samples of a write of 0x3C and 0x5A to 0x000A and 0x0009, and the records of it: 0x0009 has mask 0, so no bit moves. */
+static const uint8_t written[] = {1, 0x00, 0x0A, 0x3C, 0x3C, 1, 0x3C, 1, 0x00, 0x09, 0x5A, 0x00, 1, 0x00};
 
 static size_t two_bytes(uint8_t *samples, size_t room)
 {
@@ -145,12 +145,13 @@ static void check_read(void)
     check(open_map(&r) == COUPLINGNUT_DONE && read_into(&r, samples, length, sizeof r.records) == COUPLINGNUT_DONE &&
               r.count == 2,
           "two records are read");
-    check(memcmp(r.records, written, sizeof written) == 0 && r.records[12] == PATTERN, "they fill the start of the buffer");
+    check(memcmp(r.records, written, sizeof written) == 0 && r.records[sizeof written] == PATTERN,
+          "they fill the start of the buffer");
     check(r.active[0x0A] == 0x3C && r.active[0x09] == 0, "the register has the byte, where its mask has ones");
     open_map(&r);
     before = r;
     before.count = 0;
-    check(read_into(&r, samples, length, 11) == COUPLINGNUT_SHORT_RECORDS && memcmp(&r, &before, sizeof r) == 0,
+    check(read_into(&r, samples, length, sizeof written - 1) == COUPLINGNUT_SHORT_RECORDS && memcmp(&r, &before, sizeof r) == 0,
           "room for one byte less is refused 6, and all is as it was");
     r.session.bytes[0] = 1;
     before = r;
@@ -166,17 +167,18 @@ static void check_next(void)
     size_t length = two_bytes(samples, sizeof samples);
 
     open_map(&r);
-    check(next_into(&r, samples, length, 6) == COUPLINGNUT_DONE && r.count == 1 && r.taken == 49 &&
-              memcmp(r.records, written, 6) == 0,
+    check(next_into(&r, samples, length, COUPLINGNUT_RECORD_SIZE) == COUPLINGNUT_DONE && r.count == 1 && r.taken == 49 &&
+              memcmp(r.records, written, COUPLINGNUT_RECORD_SIZE) == 0,
           "the first record stands at sample 48");
-    check(next_into(&r, samples + 49, length - 49, 6) == COUPLINGNUT_DONE && r.count == 1 && r.taken == 16 &&
-              memcmp(r.records, written + 6, 6) == 0,
+    check(next_into(&r, samples + 49, length - 49, COUPLINGNUT_RECORD_SIZE) == COUPLINGNUT_DONE && r.count == 1 && r.taken == 16 &&
+              memcmp(r.records, written + COUPLINGNUT_RECORD_SIZE, COUPLINGNUT_RECORD_SIZE) == 0,
           "the second at the sixteenth after it");
     before = r;
     before.count = 0;
     before.taken = 0;
     samples[length - 1] = 0x10;
-    check(next_into(&r, samples + 65, length - 65, 6) == COUPLINGNUT_BAD_SAMPLES && memcmp(&r, &before, sizeof r) == 0,
+    check(next_into(&r, samples + 65, length - 65, COUPLINGNUT_RECORD_SIZE) == COUPLINGNUT_BAD_SAMPLES &&
+              memcmp(&r, &before, sizeof r) == 0,
           "a bad sample is refused 5, and all is as it was");
     samples[length - 1] = 0x01;
     check(next_into(&r, samples + 65, length - 65, 0) == COUPLINGNUT_DONE && r.count == 0 && r.taken == length - 65,

@@ -20,7 +20,7 @@
  *     for each piece of at most 4,096 samples:
  *         couplingnut_read(map, map_length, &session, active, 16, buffer, 16, piece, piece_length,
  *                          records, sizeof records, &count);
- *         (`count` records of 6 bytes stand at the start of `records`)
+ *         (`count` records of 7 bytes stand at the start of `records`)
  *
  * THE MAP is bytes that say what registers the chip has: 2 bytes, how many bytes follow them; 1 byte, the version, 1; 2 bytes,
  * the number n of registers, 16 to 8,192; then for each register, from address 0 on, 3 bytes: kind (0 blank, 1 read-only,
@@ -31,11 +31,13 @@
  *
  * A SAMPLE is a byte: bit 0 CSB, bit 1 SCLK, bit 2 SDIO, bit 3 SDO; bits 4 to 7 are zero.
  *
- * A RECORD is 6 bytes: its kind (1 write, 2 read, 3 broken off); the address, high byte first; then
+ * A RECORD is 7 bytes: its kind (1 write, 2 read, 3 broken off); the address, high byte first; then
  *     of a write:      the byte written; what the register holds after it (0 with effect 0); the effect: 0 none, 1 the register
  *                      changed, 2 its buffer did, 3 settings, 4 a transfer, 5 a soft reset
  *     of a read:       the byte due from the register; the byte on the line; 0 if they are equal, else 1
  *     if broken off:   how many bits were there; 0 in an instruction, 1 in data; 0
+ * and last, of a write with effect 1 or 2, the bits in which the register's byte, or its buffer's, differs from the one before it;
+ * 0 in all others.
  *
  * Each call gives back a number, the lowest that applies; they are listed below.
  */
@@ -73,7 +75,7 @@ enum couplingnut_number {
 };
 
 /* How many bytes a record has, and how many hold the records of so many samples, whatever they are. */
-enum { COUPLINGNUT_RECORD_SIZE = 6 };
+enum { COUPLINGNUT_RECORD_SIZE = 7 };
 #define COUPLINGNUT_RECORDS_SIZE(samples) (COUPLINGNUT_RECORD_SIZE * (((samples) + 2) / 3))
 
 /* No call of the reader takes more samples. */

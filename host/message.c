@@ -13,7 +13,7 @@ static const char *const messages[] = {
     "a bank is not as long as the map has registers; lend two banks of as many bytes",
     "a sample has one of bits 4 to 7 set, or there are more than 65,536 in a call; record the four lines on bits 0 to 3 "
     "and clear the rest",
-    "the records need more room than was lent; lend six bytes for every three samples, and six more",
+    "the records need more room than was lent; lend seven bytes for every three samples, and seven more",
     "the direction is above 1, or the settings number above 7; 0 writes and 1 reads, and settings are 1, 2 and 4, added",
     "the count is not 1 to 1,000, or the data is not as long as it says; split the run, and give a read no data",
     "the start address is above 0x7FFF; addresses have 15 bits",

@@ -28,7 +28,7 @@ WRITE, READ = 0, 1
 LSB_FIRST, ASCENDING, SINGLE_INSTRUCTION = 1, 2, 4
 
 SESSION_SIZE = 19
-RECORD_SIZE = 6
+RECORD_SIZE = 7
 MOST_SAMPLES = 48003  # No order gives more.
 PHASES = ('rest', 'instruction', 'data')
 
@@ -84,16 +84,17 @@ class SettingsInUse(NamedTuple):
 
 
 class Record(NamedTuple):
-    """What one record says; the last three bytes depend on the kind (couplingnut(3))."""
+    """What one record says: bytes 3 to 5 depend on the kind, and `moved` has the bits that a write moved (couplingnut(3))."""
     kind: int
     address: int
     byte3: int
     byte4: int
     byte5: int
+    moved: int
 
     def __str__(self):
         """The line that busread prints."""
-        return f'{"?WRC"[self.kind]} {self.address:04X} {self.byte3:02X} {self.byte4:02X} {self.byte5}'
+        return f'{"?WRC"[self.kind]} {self.address:04X} {self.byte3:02X} {self.byte4:02X} {self.byte5} {self.moved:02X}'
 
 
 class Session:

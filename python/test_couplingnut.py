@@ -12,7 +12,8 @@ import couplingnut as cn  # noqa: E402 (the module beside this file)
 with open(os.path.join(HERE, '..', 'examples', 'scratch.map'), 'rb') as example:
     MAP = example.read()
 SCRATCH_WRITE = cn.send(cn.WRITE, 0, 0x000A, 1, [0x3C])
-WRITTEN = cn.Record(1, 0x000A, 0x3C, 0x3C, 1)
+WRITTEN = cn.Record(1, 0x000A, 0x3C, 0x3C, 1, 0x3C)
+WRITTEN_AGAIN = WRITTEN._replace(moved=0)
 
 
 def opened():
@@ -55,7 +56,7 @@ class Couplingnut(unittest.TestCase):
         session, active, buffer = opened()
         after, records = cn.read(MAP, session, active, buffer, SCRATCH_WRITE)
         self.assertEqual(records, [WRITTEN])
-        self.assertEqual(str(records[0]), 'W 000A 3C 3C 1')
+        self.assertEqual(str(records[0]), 'W 000A 3C 3C 1 3C')
         self.assertEqual((active[0x000A], buffer[0x000A]), (0x3C, 0))
         self.assertEqual(after.phase, 'rest')
         self.assertEqual(cn.read(MAP, session, active, buffer, b''), (session, []))
@@ -64,7 +65,7 @@ class Couplingnut(unittest.TestCase):
         """a byte that the select broke off"""
         session, active, buffer = opened()
         _, records = cn.read(MAP, session, active, buffer, SCRATCH_WRITE[:47] + b'\1')
-        self.assertEqual([str(record) for record in records], ['C 000A 07 01 0'])
+        self.assertEqual([str(record) for record in records], ['C 000A 07 01 0 00'])
         self.assertEqual(active[0x000A], 0)
 
     def test_pieces(self):
@@ -91,7 +92,7 @@ class Couplingnut(unittest.TestCase):
             at += taken
             found.append((at, record))
         # A byte is whole at its 49th sample.
-        self.assertEqual(found, [(49, WRITTEN), (51 + 49, WRITTEN), (len(recording), None)])
+        self.assertEqual(found, [(49, WRITTEN), (51 + 49, WRITTEN_AGAIN), (len(recording), None)])
         other, *other_banks = opened()
         other, _ = cn.read(MAP, other, *other_banks, recording)
         self.assertEqual((session, banks), (other, other_banks))

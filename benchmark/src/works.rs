@@ -2,6 +2,7 @@
 //! second implementation it may be.
 
 use couplingnut_tests::chip::sent;
+use couplingnut_tests::second::reader::RECORD;
 use couplingnut_tests::second::sender::Order;
 
 use crate::inputs;
@@ -9,7 +10,6 @@ use crate::sides::{read_by, send_by, test_by, Side, Space};
 
 /// The most samples of one call.
 pub const SAMPLES: usize = 65_536;
-const RECORD: usize = 6;
 const REGISTERS: usize = 512;
 const MOST_REGISTERS: usize = 8_192;
 /// The longest order, its samples in single instruction, and where it starts.

@@ -223,6 +223,8 @@ pub struct Tally {
     /// How often each call gave each number.
     pub numbers: [[u64; 7]; 3],
     pub writes_by_effect: [u64; 6],
+    /// The same writes without and with bits that moved.
+    pub moves_by_effect: [[u64; 2]; 6],
     pub reads_by_difference: [u64; 2],
     /// By the piece, instruction or data, and its bits.
     pub cuts: [[u64; 16]; 2],
@@ -233,11 +235,15 @@ impl Tally {
         self.calls += 1;
         self.numbers[call as usize][left.number as usize] += 1;
         for record in left.records.chunks(RECORD).take(left.count as usize) {
-            let [kind, _, _, third, fourth, fifth] = record.try_into().expect("a whole record");
+            let [kind, _, _, third, fourth, fifth, moved] =
+                record.try_into().expect("a whole record");
             match kind {
                 CUT => self.cuts[usize::from(fourth)][usize::from(third)] += 1,
                 READ => self.reads_by_difference[usize::from(fifth)] += 1,
-                _ => self.writes_by_effect[usize::from(fifth)] += 1,
+                _ => {
+                    self.writes_by_effect[usize::from(fifth)] += 1;
+                    self.moves_by_effect[usize::from(fifth)][usize::from(moved != 0)] += 1;
+                }
             }
         }
     }
@@ -248,6 +254,8 @@ impl Tally {
             assert!(counts.iter().all(|&count| count >= times), "{what}: {counts:?}");
         };
         met("writes by effect", &self.writes_by_effect);
+        met("plain writes without and with moves", &self.moves_by_effect[1]);
+        met("buffered writes without and with moves", &self.moves_by_effect[2]);
         met("reads", &self.reads_by_difference);
         met("cuts of an instruction", &self.cuts[0][1..]);
         met("cuts of a byte", &self.cuts[1][1..8]);

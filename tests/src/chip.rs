@@ -99,7 +99,7 @@ pub fn settings_of(number: u64) -> Settings {
     named.fold(Settings::NONE, |settings, i| settings.with(ORDERED[i]))
 }
 
-/// A record as document 01 prints it.
+/// A record as busread prints it.
 pub fn line(record: &[u8]) -> String {
     let letter = match record[0] {
         1 => 'W',
@@ -108,5 +108,6 @@ pub fn line(record: &[u8]) -> String {
         kind => panic!("no record has kind {kind}"),
     };
     let address = u16::from_be_bytes([record[1], record[2]]);
-    format!("{letter} {address:04X} {:02X} {:02X} {:X}", record[3], record[4], record[5])
+    let [third, fourth, fifth, moved] = record[3..] else { panic!("{record:?} is no record") };
+    format!("{letter} {address:04X} {third:02X} {fourth:02X} {fifth:X} {moved:02X}")
 }

@@ -367,7 +367,7 @@ fn captures_of_a_logic_analyser_are_read() {
         let printed = output_of(&mut busread(), &input, Feed::Pipe).output;
         assert_eq!(
             String::from_utf8_lossy(&printed),
-            "map 16\nW 000A 3C 3C 1\nrecords 1 samples 51 slow 0\n"
+            "map 16\nW 000A 3C 3C 1 3C\nrecords 1 samples 51 slow 0\n"
         );
     }
 }

@@ -171,10 +171,10 @@ fn the_printed_case_call_by_call() {
     assert_eq!((opened.number, opened.active[0x000A]), (0, 0x00));
     given.go_on(&opened);
     given.samples = write_of_3c();
-    given.records = vec![0xEE; 8];
+    given.records = vec![0xEE; 9];
     let read = comparison.call(Call::Read, &given);
     assert_eq!((read.number, read.count), (0, 1));
-    assert_eq!(read.records, [0x01, 0x00, 0x0A, 0x3C, 0x3C, 0x01, 0xEE, 0xEE]);
+    assert_eq!(read.records, [0x01, 0x00, 0x0A, 0x3C, 0x3C, 0x01, 0x3C, 0xEE, 0xEE]);
     assert_eq!((read.active[0x000A], read.buffer[0x000A]), (0x3C, 0x00));
     assert_eq!(read.session, opened.session);
     // Byte 1 is whole once 33 + 16 samples have been sent.

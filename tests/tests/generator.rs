@@ -32,19 +32,23 @@ fn every_kind_of_line_is_reached() {
     for (_, text) in reports() {
         for line in text.lines() {
             seen.insert(match line.split_once(' ').expect("every line has two words") {
-                ("W", rest) => format!("W effect {}", &rest[11..]),
+                ("W", rest) => {
+                    let moved = if rest.ends_with(" 00") { "nothing" } else { "some bits" };
+                    format!("W effect {}, {moved} moved", &rest[11..12])
+                }
                 ("R", rest) => format!("R {}", &rest[11..]),
-                ("C", rest) => format!("C {}", &rest[5..10]),
+                ("C", rest) => format!("C {}", &rest[5..]),
                 ("refused", number) => format!("refused {number}"),
                 (word, _) => word.to_string(),
             });
         }
     }
     let mut all: BTreeSet<String> = ["map", "records"].map(String::from).into();
-    all.extend((0..=5).map(|effect| format!("W effect {effect}")));
-    all.extend((0..=1).map(|unequal| format!("R {unequal}")));
-    all.extend((1..=15).map(|bits| format!("C {bits:02X} 00")));
-    all.extend((1..=7).map(|bits| format!("C {bits:02X} 01")));
+    all.extend((0..=5).map(|effect| format!("W effect {effect}, nothing moved")));
+    all.extend((1..=2).map(|effect| format!("W effect {effect}, some bits moved")));
+    all.extend((0..=1).map(|unequal| format!("R {unequal} 00")));
+    all.extend((1..=15).map(|bits| format!("C {bits:02X} 00 0 00")));
+    all.extend((1..=7).map(|bits| format!("C {bits:02X} 01 0 00")));
     all.extend([2, 3, 5].map(|number| format!("refused {number}")));
     assert_eq!(seen, all);
 }
@@ -80,7 +84,8 @@ fn maps_of_every_size_are_reached() {
 fn halves_of_0x0000_that_disagree_are_reached() {
     let mut readings = BTreeSet::new();
     for (_, text) in reports() {
-        let nothing = text.lines().filter(|line| line.starts_with("W 0000") && line.ends_with('0'));
+        let no_effect = |line: &&str| line.starts_with("W 0000") && &line[13..14] == "0";
+        let nothing = text.lines().filter(no_effect);
         readings.extend(nothing.map(|line| line[10..12].to_string()));
     }
     assert_eq!(readings.len(), 8, "{readings:?}");

@@ -42,7 +42,11 @@ fn assert_text(map: &[u8], samples: &[u8], expected: &str) {
 fn the_printed_case() {
     let samples = write_of(0x000A, &[0x3C]);
     assert_eq!(samples.len(), 51);
-    assert_text(&simple_map(16), &samples, "map 16\nW 000A 3C 3C 1\nrecords 1 samples 51 slow 0\n");
+    assert_text(
+        &simple_map(16),
+        &samples,
+        "map 16\nW 000A 3C 3C 1 3C\nrecords 1 samples 51 slow 0\n",
+    );
 }
 
 #[test]
@@ -73,10 +77,10 @@ fn bits_outside_the_mask_keep_their_value() {
     let mut map = simple_map(17);
     set_entry(&mut map, 0x0010, [2, 0x0F, 0xA5]);
     let mut chip = Chip::opened(&map);
-    assert_eq!(chip.write(0x0010, &[0x3C]), ["W 0010 3C AC 1"]);
+    assert_eq!(chip.write(0x0010, &[0x3C]), ["W 0010 3C AC 1 09"]);
     assert_eq!(chip.active[0x0010], 0xAC);
     let samples = write_of(0x0010, &[0x3C]);
-    assert_text(&map, &samples, "map 17\nW 0010 3C AC 1\nrecords 1 samples 51 slow 0\n");
+    assert_text(&map, &samples, "map 17\nW 0010 3C AC 1 09\nrecords 1 samples 51 slow 0\n");
 }
 
 #[test]
@@ -84,13 +88,13 @@ fn scratch_write_bit_by_bit() {
     let highest_first = frame("0000000000001010 00110101");
     assert_eq!(write_of(0x000A, &[0x35]), highest_first);
     let map = simple_map(16);
-    assert_text(&map, &highest_first, "map 16\nW 000A 35 35 1\nrecords 1 samples 51 slow 0\n");
+    assert_text(&map, &highest_first, "map 16\nW 000A 35 35 1 35\nrecords 1 samples 51 slow 0\n");
 
     let lowest_first = frame("0101000000000000 10101100");
     let order = Order { direction: 0, settings: 1, start: 0x000A, count: 1, data: &[0x35] };
     assert_eq!(sent(&order), lowest_first);
     let samples = [write_of(0x0000, &[0x42]), lowest_first].concat();
-    let expected = "map 16\nW 0000 42 42 3\nW 000A 35 35 1\nrecords 2 samples 102 slow 0\n";
+    let expected = "map 16\nW 0000 42 42 3 00\nW 000A 35 35 1 35\nrecords 2 samples 102 slow 0\n";
     assert_text(&map, &samples, expected);
 }
 
@@ -98,9 +102,12 @@ fn scratch_write_bit_by_bit() {
 fn a_write_cut_off() {
     let map = simple_map(16);
     let whole = write_of(0x000A, &[0x3C]);
-    for (kept, line) in
-        [(47, "C 000A 07 01 0\n"), (31, "C 0000 0F 00 0\n"), (33, ""), (49, "W 000A 3C 3C 1\n")]
-    {
+    for (kept, line) in [
+        (47, "C 000A 07 01 0 00\n"),
+        (31, "C 0000 0F 00 0 00\n"),
+        (33, ""),
+        (49, "W 000A 3C 3C 1 3C\n"),
+    ] {
         let samples = [&whole[..kept], &[0x01]].concat();
         let (records, length) = (line.lines().count(), samples.len());
         let expected = format!("map 16\n{line}records {records} samples {length} slow 0\n");
@@ -111,7 +118,7 @@ fn a_write_cut_off() {
 /// The case of 0x40 as Ask 2 of document 02 has it.
 #[test]
 fn writes_to_0x0000() {
-    for (v, line) in [(0x40, "W 0000 40 00 0"), (0x81, "W 0000 81 00 5")] {
+    for (v, line) in [(0x40, "W 0000 40 00 0 00"), (0x81, "W 0000 81 00 5 00")] {
         let samples = write_of(0x0000, &[v]);
         assert_text(
             &simple_map(16),
@@ -140,19 +147,19 @@ fn slow_writes_are_counted() {
     ];
     let lines = [
         "map 16",
-        "W 0001 10 00 3",
-        "W 0001 10 00 3",
-        "W 0001 B0 A0 3",
-        "W 0001 20 20 3",
-        "R 0001 20 10 1",
-        "C 0001 07 01 0",
-        "W 000A 10 10 1",
+        "W 0001 10 00 3 00",
+        "W 0001 10 00 3 00",
+        "W 0001 B0 A0 3 00",
+        "W 0001 20 20 3 00",
+        "R 0001 20 10 1 00",
+        "C 0001 07 01 0 00",
+        "W 000A 10 10 1 10",
         "records 7 samples 354 slow 3\n",
     ];
     assert_text(&simple_map(16), &steps.concat(), &lines.join("\n"));
     // Over all pieces; a refusal has no last line.
     let many = write_of(0x0001, &[0x10]).repeat(300);
-    let lines = "W 0001 10 00 3\n".repeat(300);
+    let lines = "W 0001 10 00 3 00\n".repeat(300);
     let expected = format!("map 16\n{lines}records 300 samples 15300 slow 300\n");
     assert_text(&simple_map(16), &many, &expected);
     let refused = [write_of(0x0001, &[0x10]), vec![0x10]].concat();
@@ -166,13 +173,13 @@ fn addresses_wrap() {
 
     let map = simple_map(16);
     let down = write_of(0x0000, &[0x00, 0x11]);
-    let expected = "map 16\nW 0000 00 00 3\nW 7FFF 11 00 0\nrecords 2 samples 67 slow 0\n";
+    let expected = "map 16\nW 0000 00 00 3 00\nW 7FFF 11 00 0 00\nrecords 2 samples 67 slow 0\n";
     assert_text(&map, &down, expected);
 
     let order = Order { direction: 0, settings: 2, start: 0x7FFF, count: 2, data: &[0x22, 0x24] };
     let up = [write_of(0x0000, &[0x24]), sent(&order)].concat();
     let expected =
-        "map 16\nW 0000 24 24 3\nW 7FFF 22 00 0\nW 0000 24 24 3\nrecords 3 samples 118 slow 0\n";
+        "map 16\nW 0000 24 24 3 00\nW 7FFF 22 00 0 00\nW 0000 24 24 3 00\nrecords 3 samples 118 slow 0\n";
     assert_text(&map, &up, expected);
 }
 
@@ -201,13 +208,13 @@ fn a_buffered_register_waits_for_the_transfer() {
     ];
     let lines = [
         "map 17",
-        "W 0010 22 22 2",
-        "R 0010 11 00 1",
-        "W 0001 20 20 3",
-        "R 0010 22 00 1",
-        "W 000F 01 00 4",
-        "W 0001 00 00 3",
-        "R 0010 22 00 1",
+        "W 0010 22 22 2 33",
+        "R 0010 11 00 1 00",
+        "W 0001 20 20 3 00",
+        "R 0010 22 00 1 00",
+        "W 000F 01 00 4 00",
+        "W 0001 00 00 3 00",
+        "R 0010 22 00 1 00",
         "records 7 samples 357 slow 0\n",
     ];
     assert_text(&map, &steps.concat(), &lines.join("\n"));
@@ -234,12 +241,15 @@ fn empty_and_long_traces() {
     assert_text(&simple_map(16), &at_rest, "map 16\nrecords 0 samples 65537 slow 0\n");
 }
 
-/// 4,096 samples never give more than 1,366 records, and can give as many.
+/// 4,096 samples never give more than 1,366 records, and can give as many. They
+/// need 9,562 bytes (Ask 8 of document 02).
 #[test]
 fn the_densest_piece() {
     let mut chip = Chip::opened(&simple_map(16));
     chip.read(&[0x00, 0x02]);
     let densest: Vec<u8> = [0x01, 0x00, 0x02].into_iter().cycle().take(4_096).collect();
-    let mut records = vec![0; 8_400];
+    let mut records = vec![0; 9_562];
+    let too_short = &mut records[..9_561];
+    assert_eq!(chip.call(&densest, too_short), Answer { number: 6, count: 0 });
     assert_eq!(chip.call(&densest, &mut records), Answer { number: 0, count: 1_366 });
 }

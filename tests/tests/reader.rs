@@ -7,7 +7,7 @@ use couplingnut_tests::generate::maps::{self, good_map, set_entry, simple_map};
 use couplingnut_tests::generate::random::Random;
 use couplingnut_tests::generate::sessions::{sound_session, unsound_sessions, USABLE};
 use couplingnut_tests::generate::traces::trace;
-use couplingnut_tests::second::reader::most_records;
+use couplingnut_tests::second::reader::{most_records, RECORD};
 use couplingnut_tests::second::sender::Order;
 use couplingnut_tests::second::session::{Phase, Session, CSB, SCLK};
 use couplingnut_tests::second::settings::Settings;
@@ -55,7 +55,7 @@ fn the_lowest_number_that_applies_is_given() {
         if breaks(5) {
             samples[20] |= 0x10;
         }
-        let room = if breaks(6) { 5 } else { 6 };
+        let room = if breaks(6) { 6 } else { 7 };
         assert_refused(&chip, &samples, room, broken.trailing_zeros() as u8 + 1);
     }
 }
@@ -96,19 +96,22 @@ fn the_room_that_is_needed_is_exact() {
     for _ in 0..3_000 {
         let (chip, samples) = chip_and_trace(&mut random);
         let mut whole = chip.clone();
-        let mut all = vec![0; 6 * samples.len()];
+        let mut all = vec![0; RECORD * samples.len()];
         let count = whole.call(&samples, &mut all).count;
         if count > 0 {
             with_records += 1;
-            assert_refused(&chip, &samples, 6 * count - 1, 6);
+            assert_refused(&chip, &samples, RECORD * count - 1, 6);
         }
         let extra = random.below(20);
         let mut exact = chip.clone();
-        let mut records = vec![0xEE; 6 * count + extra];
+        let mut records = vec![0xEE; RECORD * count + extra];
         assert_eq!(exact.call(&samples, &mut records), Answer { number: 0, count });
         assert_eq!(exact, whole);
-        assert_eq!(records[..6 * count], all[..6 * count]);
-        assert!(records[6 * count..].iter().all(|&byte| byte == 0xEE), "the rest is unchanged");
+        assert_eq!(records[..RECORD * count], all[..RECORD * count]);
+        assert!(
+            records[RECORD * count..].iter().all(|&byte| byte == 0xEE),
+            "the rest is unchanged"
+        );
     }
     assert!(with_records > 2_000, "only {with_records} traces had records");
 }
@@ -209,10 +212,10 @@ fn a_new_bit_order_counts_from_the_next_instruction() {
     let mut chip = Chip::opened(&simple_map(17));
     // Ascending and LSB first to 0x0000, then down on to 0x7FFF in the old order.
     let lines = chip.write(0x0000, &[0x66, 0x12]);
-    assert_eq!(lines, ["W 0000 66 66 3", "W 7FFF 12 00 0"]);
+    assert_eq!(lines, ["W 0000 66 66 3 00", "W 7FFF 12 00 0 00"]);
     // The next frame is lowest bit first, all sixteen bits turned, and goes up.
     let frame = [&[0x00][..], &clocked("0001 0000 0000 0000 0010 1100 1000 0000"), &[0x01]];
-    assert_eq!(chip.read(&frame.concat()), ["W 0008 34 34 1", "W 0009 01 01 1"]);
+    assert_eq!(chip.read(&frame.concat()), ["W 0008 34 34 1 34", "W 0009 01 01 1 01"]);
 }
 
 #[test]
@@ -229,8 +232,8 @@ fn in_single_instruction_a_new_setting_counts_at_once() {
         &[0x01],
     ];
     let lines = chip.read(&frame.concat());
-    assert_eq!(lines[..2], ["W 0000 42 42 3", "W 000A 01 01 1"]);
-    assert_eq!(lines[2..], ["W 0000 81 00 5", "W 000A 07 07 1", "W 0009 09 09 1"]);
+    assert_eq!(lines[..2], ["W 0000 42 42 3 00", "W 000A 01 01 1 01"]);
+    assert_eq!(lines[2..], ["W 0000 81 00 5 00", "W 000A 07 07 1 07", "W 0009 09 09 1 09"]);
 }
 
 /// The session is a value that the caller keeps between calls.
@@ -283,14 +286,18 @@ fn the_settings_in_use_are_the_ones_that_count() {
         chip.read(&[&lines[..], &[0x01]].concat())
     };
     for (one, expected) in [
-        (Settings::NONE, ["R 000C 56 0A 1", "C 000B 03 01 0"]),
-        (Settings::LSB_FIRST, ["R 000C 56 50 1", "C 000B 03 01 0"]),
-        (Settings::ASCENDING, ["R 000C 56 0A 1", "C 000D 03 01 0"]),
-        (Settings::SDO_ACTIVE, ["R 000C 56 50 1", "C 000B 03 01 0"]),
-        (Settings::SINGLE_INSTRUCTION, ["R 000C 56 0A 1", "C 0000 03 00 0"]),
+        (Settings::NONE, ["R 000C 56 0A 1 00", "C 000B 03 01 0 00"]),
+        (Settings::LSB_FIRST, ["R 000C 56 50 1 00", "C 000B 03 01 0 00"]),
+        (Settings::ASCENDING, ["R 000C 56 0A 1 00", "C 000D 03 01 0 00"]),
+        (Settings::SDO_ACTIVE, ["R 000C 56 50 1 00", "C 000B 03 01 0 00"]),
+        (Settings::SINGLE_INSTRUCTION, ["R 000C 56 0A 1 00", "C 0000 03 00 0 00"]),
     ] {
         assert_eq!(read(one, Settings::NONE), expected, "{one:?} in use");
-        assert_eq!(read(Settings::NONE, one), ["R 000C 56 0A 1", "C 000B 03 01 0"], "{one:?} set");
+        assert_eq!(
+            read(Settings::NONE, one),
+            ["R 000C 56 0A 1 00", "C 000B 03 01 0 00"],
+            "{one:?} set"
+        );
     }
 }
 
@@ -300,9 +307,9 @@ fn no_bit_is_taken_when_csb_moves_with_the_clock() {
     let mut chip = Chip::opened(&simple_map(16));
     // Both rise together after fifteen bits.
     let rising = [&[0x00][..], &fifteen, &[0x00, 0x03]].concat();
-    assert_eq!(chip.read(&rising), ["C 0000 0F 00 0"]);
+    assert_eq!(chip.read(&rising), ["C 0000 0F 00 0 00"]);
     // The clock was high at rest and is high after CSB fell; then one bit.
-    assert_eq!(chip.read(&[0x02, 0x00, 0x02, 0x01]), ["C 0000 01 00 0"]);
+    assert_eq!(chip.read(&[0x02, 0x00, 0x02, 0x01]), ["C 0000 01 00 0 00"]);
     // CSB falls as the clock rises: no bit, and no second edge without a low.
     assert_eq!(chip.read(&[0x01, 0x02, 0x06, 0x01]), [""; 0]);
     assert_eq!(chip.read(&[0x02, 0x01]), [""; 0]);
@@ -316,9 +323,9 @@ fn a_transfer_leaves_plain_registers_alone() {
     let mut chip = Chip::opened(&map);
     chip.buffer = (100..120).collect();
     let before = chip.active.clone();
-    assert_eq!(chip.write(0x000F, &[0xFE]), ["W 000F FE 00 3"]);
+    assert_eq!(chip.write(0x000F, &[0xFE]), ["W 000F FE 00 3 00"]);
     assert_eq!(chip.active, before);
-    assert_eq!(chip.write(0x000F, &[0x03]), ["W 000F 03 00 4"]);
+    assert_eq!(chip.write(0x000F, &[0x03]), ["W 000F 03 00 4 00"]);
     let mut expected = before;
     expected[0x0010] = 116;
     assert_eq!(chip.active, expected);
@@ -331,7 +338,7 @@ fn a_broken_byte_is_not_written_even_if_its_bits_match() {
     chip.write(0x000A, &[0x55]);
     let before = chip.clone();
     let broken = [&[0x00][..], &clocked("0000 0000 0000 1010 0101 010"), &[0x01]].concat();
-    assert_eq!(chip.read(&broken), ["C 000A 07 01 0"]);
+    assert_eq!(chip.read(&broken), ["C 000A 07 01 0 00"]);
     assert_eq!(chip, before);
 }
 
@@ -339,5 +346,5 @@ fn a_broken_byte_is_not_written_even_if_its_bits_match() {
 fn a_cut_names_the_address_that_the_run_had_reached() {
     let mut chip = Chip::opened(&simple_map(17));
     let frame = [&[0x00][..], &clocked("0000 0000 0000 1001 0000 0001 11"), &[0x01]].concat();
-    assert_eq!(chip.read(&frame), ["W 0009 01 01 1", "C 0008 02 01 0"]);
+    assert_eq!(chip.read(&frame), ["W 0009 01 01 1 01", "C 0008 02 01 0 00"]);
 }

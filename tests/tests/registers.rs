@@ -33,11 +33,14 @@ fn a_write_changes_the_masked_bits_of_its_stage() {
                 2 => (before.active[16], chip.active[16]),
                 _ => (before.buffer[16], chip.buffer[16]),
             };
+            let mut moved = 0;
             for place in 0..8 {
                 let from = if bit(mask, place) { v } else { old };
                 assert_eq!(bit(new, place), bit(from, place), "mask {mask:#04X}, bit {place}");
+                moved += u8::from(bit(new, place) != bit(old, place)) << place;
             }
-            assert_eq!(lines, [format!("W 0010 {v:02X} {new:02X} {}", kind - 1)]);
+            let effect = kind - 1;
+            assert_eq!(lines, [format!("W 0010 {v:02X} {new:02X} {effect} {moved:02X}")]);
 
             // Nothing else changed.
             match kind {
@@ -49,14 +52,52 @@ fn a_write_changes_the_masked_bits_of_its_stage() {
     }
 }
 
+/// Ask 8 of document 02, by hand: kind, mask, active byte, buffer byte, what is
+/// written, and the line. The old byte is that of the stage written.
+#[test]
+fn a_write_tells_the_bits_that_moved() {
+    for ([kind, mask, active, buffer, v], line) in [
+        ([2, 0xFF, 0x00, 0xFF, 0x3C], "W 0010 3C 3C 1 3C"),
+        ([2, 0xFF, 0x3C, 0x00, 0x3C], "W 0010 3C 3C 1 00"),
+        ([2, 0xFF, 0xF0, 0x00, 0x0F], "W 0010 0F 0F 1 FF"),
+        ([2, 0x0F, 0xA5, 0x00, 0x3C], "W 0010 3C AC 1 09"),
+        ([2, 0x00, 0xA5, 0x00, 0x5A], "W 0010 5A A5 1 00"),
+        ([2, 0x81, 0x00, 0x00, 0xFF], "W 0010 FF 81 1 81"),
+        ([3, 0xFF, 0x00, 0x11, 0x22], "W 0010 22 22 2 33"),
+        ([3, 0xFF, 0x11, 0x22, 0x22], "W 0010 22 22 2 00"),
+        ([3, 0xF0, 0xFF, 0x0A, 0x85], "W 0010 85 8A 2 80"),
+        ([1, 0x00, 0x0F, 0xF0, 0xFF], "W 0010 FF 00 0 00"),
+    ] {
+        let mut chip = chip_with([kind, mask, 0x00]);
+        (chip.active[16], chip.buffer[16]) = (active, buffer);
+        assert_eq!(chip.write(0x0010, &[v]), [line]);
+        // Once more, and nothing moves.
+        let still = format!("{} 00", &line[..14]);
+        assert_eq!(chip.write(0x0010, &[v]), [still]);
+    }
+}
+
+/// Control registers show none, whatever settings and registers they move.
+#[test]
+fn control_writes_tell_no_moved_bits() {
+    let mut chip = chip_with([3, 0xFF, 0x11]);
+    assert_eq!(chip.write(0x0010, &[0x22]), ["W 0010 22 22 2 33"]);
+    assert_eq!(chip.write(0x000F, &[0x01]), ["W 000F 01 00 4 00"]);
+    assert_eq!(chip.active[16], 0x22);
+    assert_eq!(chip.write(0x0001, &[0x20]), ["W 0001 20 20 3 00"]);
+    assert_eq!(chip.write(0x0000, &[0x42]), ["W 0000 42 42 3 00"]);
+    assert_eq!(chip.write(0x0000, &[0x81]), ["W 0000 81 00 5 00"]);
+    assert_eq!((chip.active[16], chip.buffer[16]), (0x11, 0x11));
+}
+
 #[test]
 fn blank_read_only_and_absent_registers_take_nothing() {
     for entry in [[0, 0, 0], [1, 0, 0x77]] {
         let mut chip = chip_with(entry);
         let before = chip.clone();
-        assert_eq!(chip.write(0x0010, &[0xFF]), ["W 0010 FF 00 0"]);
-        assert_eq!(chip.write(0x0011, &[0xFF]), ["W 0011 FF 00 0"]);
-        assert_eq!(chip.write(0x7FFF, &[0xFF]), ["W 7FFF FF 00 0"]);
+        assert_eq!(chip.write(0x0010, &[0xFF]), ["W 0010 FF 00 0 00"]);
+        assert_eq!(chip.write(0x0011, &[0xFF]), ["W 0011 FF 00 0 00"]);
+        assert_eq!(chip.write(0x7FFF, &[0xFF]), ["W 7FFF FF 00 0 00"]);
         assert_eq!(chip, before);
     }
 }
@@ -129,7 +170,7 @@ fn every_byte_written_to_0x0000() {
                 }
             }
             let from = format!("{v:#04X} after {a:#04X} and {b:#04X}");
-            assert_eq!(lines, [format!("W 0000 {v:02X} {reading:02X} {effect}")], "{from}");
+            assert_eq!(lines, [format!("W 0000 {v:02X} {reading:02X} {effect} 00")], "{from}");
             assert_eq!(chip, expected, "{from}");
         }
     }
@@ -150,24 +191,24 @@ fn the_configuration_registers_read_as_the_settings() {
 #[test]
 fn halves_of_0x0000_that_disagree_change_nothing() {
     let mut chip = Chip::opened(&simple_map(16));
-    assert_eq!(chip.write(0x0000, &[0x40]), ["W 0000 40 00 0"]);
+    assert_eq!(chip.write(0x0000, &[0x40]), ["W 0000 40 00 0 00"]);
     chip.write(0x000A, &[0x33]);
     chip.write(0x0001, &[0x20]);
-    assert_eq!(chip.write(0x0000, &[0x42]), ["W 0000 42 42 3"]);
+    assert_eq!(chip.write(0x0000, &[0x42]), ["W 0000 42 42 3 00"]);
     let before = chip.clone();
     for (v, line) in [
-        (0x40, "W 0000 40 42 0"),
-        (0x02, "W 0000 02 42 0"),
-        (0x80, "W 0000 80 42 0"),
-        (0x01, "W 0000 01 42 0"),
-        (0xC1, "W 0000 C1 42 0"),
-        (0x83, "W 0000 83 42 0"),
-        (0x41, "W 0000 41 42 0"),
+        (0x40, "W 0000 40 42 0 00"),
+        (0x02, "W 0000 02 42 0 00"),
+        (0x80, "W 0000 80 42 0 00"),
+        (0x01, "W 0000 01 42 0 00"),
+        (0xC1, "W 0000 C1 42 0 00"),
+        (0x83, "W 0000 83 42 0 00"),
+        (0x41, "W 0000 41 42 0 00"),
     ] {
         assert_eq!(chip.write(0x0000, &[v]), [line]);
         assert_eq!(chip, before);
     }
-    assert_eq!(chip.write(0x0000, &[0xC3]), ["W 0000 C3 42 5"]);
+    assert_eq!(chip.write(0x0000, &[0xC3]), ["W 0000 C3 42 5 00"]);
     assert_eq!(chip.active[0x000A], 0x00);
     assert_eq!(chip.session.settings, Settings::LSB_FIRST);
 }
@@ -182,7 +223,7 @@ fn a_half_written_on_the_way_leaves_the_bit_order() {
         samples[1..samples.len() - 2].to_vec()
     };
     let frame = [vec![0x00], inner(0x0000, 0x40), inner(0x000A, 0x35), vec![0x01]].concat();
-    assert_eq!(chip.read(&frame), ["W 0000 40 00 0", "W 000A 35 35 1"]);
+    assert_eq!(chip.read(&frame), ["W 0000 40 00 0 00", "W 000A 35 35 1 35"]);
 }
 
 #[test]
@@ -193,7 +234,7 @@ fn every_byte_written_to_0x0001() {
         let before = chip.clone();
         // The record shows the byte as given; bit 4 is no setting (Ask 9).
         let reading = v & 0b1010_0000;
-        assert_eq!(chip.write(0x0001, &[v]), [format!("W 0001 {v:02X} {reading:02X} 3")]);
+        assert_eq!(chip.write(0x0001, &[v]), [format!("W 0001 {v:02X} {reading:02X} 3 00")]);
         assert_eq!(chip.session.settings.has(Settings::SINGLE_INSTRUCTION), bit(v, 7));
         assert_eq!(chip.session.settings.has(Settings::BUFFER_READBACK), bit(v, 5));
         assert_eq!(chip.session.settings, settings_read_as(0x5A, reading));
@@ -245,16 +286,16 @@ fn read_frame(address: u64, sdio: u8, sdo: u8) -> Vec<u8> {
 #[test]
 fn read_data_comes_from_the_line_in_use() {
     let mut chip = Chip::opened(&simple_map(16));
-    assert_eq!(chip.read(&read_frame(0x000C, 0x56, 0xFF)), ["R 000C 56 56 0"]);
-    assert_eq!(chip.read(&read_frame(0x000C, 0x57, 0x56)), ["R 000C 56 57 1"]);
+    assert_eq!(chip.read(&read_frame(0x000C, 0x56, 0xFF)), ["R 000C 56 56 0 00"]);
+    assert_eq!(chip.read(&read_frame(0x000C, 0x57, 0x56)), ["R 000C 56 57 1 00"]);
     chip.write(0x0000, &[0x18]);
     let before = chip.clone();
-    assert_eq!(chip.read(&read_frame(0x000C, 0x57, 0x56)), ["R 000C 56 56 0"]);
-    assert_eq!(chip.read(&read_frame(0x000C, 0x56, 0xD6)), ["R 000C 56 D6 1"]);
-    assert_eq!(chip.read(&read_frame(0x0000, 0x00, 0x18)), ["R 0000 18 18 0"]);
+    assert_eq!(chip.read(&read_frame(0x000C, 0x57, 0x56)), ["R 000C 56 56 0 00"]);
+    assert_eq!(chip.read(&read_frame(0x000C, 0x56, 0xD6)), ["R 000C 56 D6 1 00"]);
+    assert_eq!(chip.read(&read_frame(0x0000, 0x00, 0x18)), ["R 0000 18 18 0 00"]);
     assert_eq!(chip, before, "a read changes no register");
     // Writes come from SDIO all the same.
-    assert_eq!(chip.write(0x000A, &[0x99]), ["W 000A 99 99 1"]);
+    assert_eq!(chip.write(0x000A, &[0x99]), ["W 000A 99 99 1 99"]);
 }
 
 #[test]
@@ -277,7 +318,8 @@ fn buffer_readback_counts_at_once() {
         inner(read),
         vec![0x01],
     ];
-    let lines = ["W 0001 A0 A0 3", "R 0010 22 00 1", "W 0001 80 80 3", "R 0010 11 00 1"];
+    let lines =
+        ["W 0001 A0 A0 3 00", "R 0010 22 00 1 00", "W 0001 80 80 3 00", "R 0010 11 00 1 00"];
     assert_eq!(chip.read(&frame.concat()), lines);
 }
 
@@ -290,7 +332,8 @@ fn a_soft_reset_on_the_way_leaves_the_run_as_it_began() {
     chip.write(0x0000, &[0x66]);
     // Lowest bit first and up, through 0x7FFF, a reset that clears both, and on.
     let lines = chip.write(0x7FFF, &[0x01, 0x81, 0x20, 0x35]);
-    let expected = ["W 7FFF 01 00 0", "W 0000 81 00 5", "W 0001 20 20 3", "W 0002 35 35 1"];
+    let expected =
+        ["W 7FFF 01 00 0 00", "W 0000 81 00 5 00", "W 0001 20 20 3 00", "W 0002 35 35 1 35"];
     assert_eq!(lines, expected);
     assert_eq!(chip.active[0x0010], 0x11);
     assert_eq!(chip.session.settings, Settings::BUFFER_READBACK);

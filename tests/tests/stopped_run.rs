@@ -9,6 +9,7 @@ use couplingnut_tests::generate::orders::{any_write, chip_at_rest};
 use couplingnut_tests::generate::random::Random;
 use couplingnut_tests::layout::from_bytes;
 use couplingnut_tests::library;
+use couplingnut_tests::second::reader::RECORD;
 use couplingnut_tests::second::sender::Order;
 use couplingnut_tests::second::session::CSB;
 use couplingnut_tests::second::Answer;
@@ -60,10 +61,10 @@ fn read_by_calls(random: &mut Random, side: &mut Side, chip: &mut Chip, samples:
             refused_call(random, side, chip, rest);
         }
         let (piece, after) = rest.split_at(random.between(0, 90).min(rest.len()));
-        let mut ample = vec![0; 6 * piece.len()];
+        let mut ample = vec![0; RECORD * piece.len()];
         let count = chip.clone().call(piece, &mut ample).count;
         // With room for its records and no more, the call is done.
-        let answer = side.call(chip, piece, &mut ample[..6 * count]);
+        let answer = side.call(chip, piece, &mut ample[..RECORD * count]);
         assert_eq!(answer, Answer { number: 0, count });
         rest = after;
     }
@@ -74,10 +75,10 @@ fn read_by_calls(random: &mut Random, side: &mut Side, chip: &mut Chip, samples:
 
 /// A call that is refused for its samples or, if they have records, its room.
 fn refused_call(random: &mut Random, side: &mut Side, chip: &mut Chip, samples: &[u8]) {
-    let mut ample = vec![0; 6 * samples.len()];
+    let mut ample = vec![0; RECORD * samples.len()];
     let count = chip.clone().call(samples, &mut ample).count;
     if count > 0 && random.coin() {
-        let room = random.below(6 * count);
+        let room = random.below(RECORD * count);
         assert_eq!(side.call(chip, samples, &mut ample[..room]).number, 6);
     } else {
         let bad = [samples, &[random.byte() | 0x20]].concat();
@@ -117,7 +118,7 @@ fn stops_end_as_the_book_says(side: &mut Side, seed: u64) {
         for s in 0..=all.len() {
             let mut stopped = chip.clone();
             let samples = [&all[..s], &[CSB]].concat();
-            let answer = side.call(&mut stopped, &samples, &mut [0; 6 * 13]);
+            let answer = side.call(&mut stopped, &samples, &mut [0; RECORD * 13]);
             assert_eq!(answer.number, 0);
             let expected = book(&chip, &order, s);
             assert_eq!((stopped.active, stopped.buffer), expected, "{order:?} at {s}");

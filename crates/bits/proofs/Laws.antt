@@ -1,6 +1,6 @@
 -- Bit operators against the definitions, once over the width.
 use mathlib.Core.Path.{_≡_, refl, ap, sym, _∙_}
-use mathlib.Core.Bool.{Bool, true, false, cond}
+use mathlib.Core.Bool.{Bool, true, false, cond, xor}
 use Prim.Native.Nat.{ℕ, zero, suc, _+_, _-_, _*_, _/_, _%_, _^_, _<_, min, max}
 use native.Mathlib.Omega.{arith}
 use native.Mathlib.Nat.{pow-suc, add-comm, div-eq-of-lt, div-lt-iff-lt-mul}
@@ -9,7 +9,7 @@ use borrow.Author.Tests.{eq-eqb, ne-eqb, ltb-true, ltb-false}
 use lib.Pow.{shl-exact, pow-pos, shr-shr, field, mod-mod-pow}
 use mir.Val.{boolByte}
 use lib.Dec.{eqb, ltb}
-use lib.Bits.{bitAnd, bitOr, or-step, and-step, or-shifted, or-shifted-r}
+use lib.Bits.{bitAnd, bitOr, bitXor, differ, or-step, and-step, xor-step, xor-shr, or-shifted, or-shifted-r}
 use Rattle.bits.specs.Bits.{bitAt, bitOf, merged, shiftedIn}
 
 -- one bit of a merge: x of the old byte, y of the new one, z of the mask
@@ -132,3 +132,23 @@ bit-under x w i h =
     let e : w ≡ w - 1 - i + 1 + i = omega arith in
     ap (λ (k : ℕ). eqb (k % 2) 1) (ap (λ (k : ℕ). x % 2 ^ k / 2 ^ i) e ∙ field x (w - 1 - i + 1) i)
     ∙ ap (λ (k : ℕ). eqb k 1) (mod-mod-pow (x / 2 ^ i) (w - 1 - i) 1)
+
+-- one bit of a difference, and what is above it
+one-differs : (rest x y : ℕ) → x < 2 → y < 2 → eqb ((rest * 2 + differ x y) % 2) 1 ≡ xor (eqb x 1) (eqb y 1)
+unfolding xor
+one-differs rest zero zero hx hy = let e : (rest * 2 + 0) % 2 ≡ 0 = omega arith in ap (λ (k : ℕ). eqb k 1) e
+one-differs rest zero (suc zero) hx hy = let e : (rest * 2 + 1) % 2 ≡ 1 = omega arith in ap (λ (k : ℕ). eqb k 1) e
+one-differs rest (suc zero) zero hx hy = let e : (rest * 2 + 1) % 2 ≡ 1 = omega arith in ap (λ (k : ℕ). eqb k 1) e
+one-differs rest (suc zero) (suc zero) hx hy = let e : (rest * 2 + 0) % 2 ≡ 0 = omega arith in ap (λ (k : ℕ). eqb k 1) e
+one-differs rest (suc (suc x)) y hx hy = absurd (omega arith)
+one-differs rest zero (suc (suc y)) hx hy = absurd (omega arith)
+one-differs rest (suc zero) (suc (suc y)) hx hy = absurd (omega arith)
+
+-- The difference of two numbers, bit by bit: bit i is one exactly where those of the two differ.
+pub xor-bit : (a b i : ℕ) → bitAt (bitXor a b) i ≡ xor (bitAt a i) (bitAt b i)
+unfolding bitAt
+xor-bit a b i =
+    let x = a / 2 ^ i in
+    let y = b / 2 ^ i in
+    ap (λ (k : ℕ). eqb (k % 2) 1) (xor-shr a b i ∙ xor-step x y)
+    ∙ one-differs (bitXor (x / 2) (y / 2)) (x % 2) (y % 2) (omega arith) (omega arith)

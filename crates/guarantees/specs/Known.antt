@@ -87,17 +87,17 @@ pub record KnownResults : Type 0 where
       ≡ bitsOfDigits (0 ∷ 0 ∷ 0 ∷ 0 ∷ 0 ∷ 0 ∷ 0 ∷ 0 ∷ 0 ∷ 0 ∷ 0 ∷ 0 ∷ 1 ∷ 0 ∷ 1 ∷ 0 ∷ 0 ∷ 0 ∷ 1 ∷ 1 ∷ 0 ∷ 1 ∷ 0 ∷ 1 ∷ [])
   pub bits-low : orderBits (writeOne 1 0x000A 0x35)
       ≡ bitsOfDigits (0 ∷ 1 ∷ 0 ∷ 1 ∷ 0 ∷ 0 ∷ 0 ∷ 0 ∷ 0 ∷ 0 ∷ 0 ∷ 0 ∷ 0 ∷ 0 ∷ 0 ∷ 0 ∷ 1 ∷ 0 ∷ 1 ∷ 0 ∷ 1 ∷ 1 ∷ 0 ∷ 0 ∷ [])
-  -- the write of 0x3C to 0x000A, stopped after 47, 31, 33 and 49 of its 51 samples
+  -- the write of 0x3C to 0x000A, stopped after 47, 31, 33 and 49 of its 51 samples; document 02, Ask 8, gives each record its last byte
   pub samples-51 : length (samplesOf (writeOne 0 0x000A 0x3C)) ≡ 51
-  pub stopped-47 : recordsAfterOpening map16 (stoppedSamples (writeOne 0 0x000A 0x3C) 47 0x01) ≡ 3 ∷ 0x00 ∷ 0x0A ∷ 0x07 ∷ 0x01 ∷ 0 ∷ []
-  pub stopped-31 : recordsAfterOpening map16 (stoppedSamples (writeOne 0 0x000A 0x3C) 31 0x01) ≡ 3 ∷ 0x00 ∷ 0x00 ∷ 0x0F ∷ 0x00 ∷ 0 ∷ []
+  pub stopped-47 : recordsAfterOpening map16 (stoppedSamples (writeOne 0 0x000A 0x3C) 47 0x01) ≡ 3 ∷ 0x00 ∷ 0x0A ∷ 0x07 ∷ 0x01 ∷ 0 ∷ 0x00 ∷ []
+  pub stopped-31 : recordsAfterOpening map16 (stoppedSamples (writeOne 0 0x000A 0x3C) 31 0x01) ≡ 3 ∷ 0x00 ∷ 0x00 ∷ 0x0F ∷ 0x00 ∷ 0 ∷ 0x00 ∷ []
   pub stopped-33 : recordsAfterOpening map16 (stoppedSamples (writeOne 0 0x000A 0x3C) 33 0x01) ≡ []
-  pub stopped-49 : recordsAfterOpening map16 (stoppedSamples (writeOne 0 0x000A 0x3C) 49 0x01) ≡ 1 ∷ 0x00 ∷ 0x0A ∷ 0x3C ∷ 0x3C ∷ 1 ∷ []
+  pub stopped-49 : recordsAfterOpening map16 (stoppedSamples (writeOne 0 0x000A 0x3C) 49 0x01) ≡ 1 ∷ 0x00 ∷ 0x0A ∷ 0x3C ∷ 0x3C ∷ 1 ∷ 0x3C ∷ []
   -- 0x40 to 0x0000, which is not its own mirror (document 02, Ask 2), and 0x81, which is
-  pub control-40 : recordsAfterOpening map16 (samplesOf (writeOne 0 0x0000 0x40)) ≡ 1 ∷ 0x00 ∷ 0x00 ∷ 0x40 ∷ 0x00 ∷ 0 ∷ []
-  pub control-81 : recordsAfterOpening map16 (samplesOf (writeOne 0 0x0000 0x81)) ≡ 1 ∷ 0x00 ∷ 0x00 ∷ 0x81 ∷ 0x00 ∷ 5 ∷ []
+  pub control-40 : recordsAfterOpening map16 (samplesOf (writeOne 0 0x0000 0x40)) ≡ 1 ∷ 0x00 ∷ 0x00 ∷ 0x40 ∷ 0x00 ∷ 0 ∷ 0x00 ∷ []
+  pub control-81 : recordsAfterOpening map16 (samplesOf (writeOne 0 0x0000 0x81)) ≡ 1 ∷ 0x00 ∷ 0x00 ∷ 0x81 ∷ 0x00 ∷ 5 ∷ 0x00 ∷ []
   -- document 02, Ask 9: 0xB0 to 0x0001 shows the byte as given, and reads without bit 4
-  pub control-b0 : recordsAfterOpening map16 (samplesOf (writeOne 0 0x0001 0xB0)) ≡ 1 ∷ 0x00 ∷ 0x01 ∷ 0xB0 ∷ 0xA0 ∷ 3 ∷ []
+  pub control-b0 : recordsAfterOpening map16 (samplesOf (writeOne 0 0x0001 0xB0)) ≡ 1 ∷ 0x00 ∷ 0x01 ∷ 0xB0 ∷ 0xA0 ∷ 3 ∷ 0x00 ∷ []
   -- descending from 0x0000, ascending from 0x7FFF
   pub wrap-down : nextAddress false 0x0000 ≡ 0x7FFF
   pub wrap-up : nextAddress true 0x7FFF ≡ 0x0000

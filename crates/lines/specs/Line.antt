@@ -17,18 +17,19 @@ letterOf kind = cond (eqb kind 1) (code "W") (cond (eqb kind 2) (code "R") (code
 
 -- the bytes of a line
 abbrev pub lineSize : ℕ
-lineSize = 15
+lineSize = 18
 
 -- byte i of a record
 abbrev pub byteOf : List ℕ → ℕ → ℕ
 byteOf r i = getD r i 0
 
 -- The line of a record: its letter, the address (bytes 1 and 2) as four capital hex digits, byte 3 and byte 4 as two each,
--- byte 5, which no record has above 5, as one digit, parted by one space.
+-- byte 5, which no record has above 5, as one digit, and, by document 02, Ask 8, the bits that moved as two, parted by one space.
 unfoldable pub lineOf : List ℕ → List ℕ
 lineOf r =
     letterOf (byteOf r 0) ∷ bytesOf " "
     ++ hexOf (byteOf r 1) ++ hexOf (byteOf r 2) ++ bytesOf " "
     ++ hexOf (byteOf r 3) ++ bytesOf " "
     ++ hexOf (byteOf r 4) ++ bytesOf " "
-    ++ digitOf (byteOf r 5 % 16) ∷ bytesOf "\n"
+    ++ digitOf (byteOf r 5 % 16) ∷ bytesOf " "
+    ++ hexOf (byteOf r 6) ++ bytesOf "\n"

@@ -7,7 +7,7 @@ ghost use Rattle.lines.specs.Text.{digitOf};
 ghost use Rattle.lines.specs.Line.{letterOf, lineOf};
 
 // The bytes of a line.
-pub const LINE: usize = 15;
+pub const LINE: usize = 18;
 
 // The digits, in order of their value.
 const DIGITS: [u8; 16] = *b"0123456789ABCDEF";
@@ -42,6 +42,7 @@ pub fn line_of(bytes: &[u8]) -> [u8; LINE]
     let low = bytes[2];
     let third = bytes[3];
     let fourth = bytes[4];
+    let moved = bytes[6];
     [
         letter(bytes[0]),
         b' ',
@@ -57,6 +58,9 @@ pub fn line_of(bytes: &[u8]) -> [u8; LINE]
         digit(fourth % 16),
         b' ',
         digit(bytes[5] % 16),
+        b' ',
+        digit(moved / 16),
+        digit(moved % 16),
         b'\n',
     ]
 }

@@ -46,7 +46,7 @@ map-end-bounds length {end} e =
     (λ t. omega (arith, leb-true length mostLength (and-right (leb leastLength length) _ (and-left (leb leastLength length && leb length mostLength) _ t))))
     (λ t. omega arith))
 
--- the records of a call of the reader, six bytes each, are within the buffer that was lent
+-- the records of a call of the reader, seven bytes each, are within the buffer that was lent
 within-room : (m : List ℕ) (w : World) (samples records : List ℕ) → recordSize * readOf m w samples records .count ≤ length records
 unfolding readOf
 within-room m w samples records =
@@ -61,7 +61,7 @@ open-told m b {number} e =
     omega (arith, open-number-most m b)
 
 -- the number that reading a piece tells: the records of 4,096 samples have room
-read-told : (m : List ℕ) (w : World) (samples records : List ℕ) → length samples ≤ piece → 8196 ≤ length records → readOf m w samples records .number ≤ 5
+read-told : (m : List ℕ) (w : World) (samples records : List ℕ) → length samples ≤ piece → 9562 ≤ length records → readOf m w samples records .number ≤ 5
 unfolding readOf
 read-told m w samples records few room =
     let most : readNumber m w samples (length records) ≤ 5 =
@@ -75,7 +75,7 @@ records-within m w samples records {count = count} e full =
     let counted : count ≡ readOf m w samples records .count = ap (λ (o : Outcome). o .count) e in
     omega (arith, within-room m w samples records)
 
--- there are no more records than samples: a piece of 4,096 samples leaves 1,400 at most
+-- there are no more records than samples: a piece of 4,096 samples leaves 1,366 at most
 pub fewer-records : (count : ℕ) {got records samples : ℕ} → recordSize * count ≤ recordSpace → piece ≤ got → records ≤ samples → records + count ≤ samples + got
 fewer-records count few full h = omega arith
 

@@ -17,10 +17,10 @@ mapSpace = mostSize + 1
 abbrev pub piece : ℕ
 piece = 4096
 
--- the bytes that hold the records of one piece
+-- the bytes that hold the records of one piece: document 02, Ask 8
 abbrev pub recordSpace : ℕ
-recordSpace = 8400
+recordSpace = 9562
 
 -- the bytes of the lines that are written at a time
 abbrev pub textSpace : ℕ
-textSpace = 6000
+textSpace = 5400

@@ -4,7 +4,7 @@
 // What a file holds is the system's, and no contract can say it. So the promises here are of how a reading ends, of what is told
 // beside it, and that no buffer is left.
 //
-// The buffers, with those of the calls, are at most 63,726 bytes together.
+// The buffers, with those of the calls, are at most 64,288 bytes together.
 ghost use mathlib.Core.Path.{_≡_};
 ghost use Prim.Native.Nat.{_<_, _≤_, min};
 ghost use Rattle.regmap.specs.Format.{countOf, mostCount};
@@ -27,7 +27,7 @@ use sizes::RECORD;
 const PIECE: usize = 4096;
 
 // The bytes for the records of a piece.
-const RECORD_SPACE: usize = 8400;
+const RECORD_SPACE: usize = 9562;
 
 // How a reading ends. A file that failed has left its reason in the system's errno.
 pub enum End {

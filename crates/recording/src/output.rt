@@ -5,8 +5,8 @@ use lines::LINE;
 use report::LAST_LINE;
 use sizes::RECORD;
 
-// The bytes for the lines that are written at a time, which are 400.
-const TEXT_SPACE: usize = 6000;
+// The bytes for the lines that are written at a time, which are 300.
+const TEXT_SPACE: usize = 5400;
 
 // Writes the first line.
 pub fn write_map_line(to: i32, n: usize) -> bool {
@@ -31,7 +31,7 @@ pub fn write_refused_line(to: i32, number: u8) -> bool
     io::write_all(to, &line[..count])
 }
 
-// Writes the lines of the records up to an end, 400 at a time.
+// Writes the lines of the records up to an end, 300 at a time.
 pub fn write_lines(to: i32, records: &[u8], end: usize) -> bool
     requires { ⌜ end ≤ length (now records) ⌝ }
 {

@@ -12,21 +12,21 @@ use Rattle.registers.specs.Read.{dueByte}
 use Rattle.writing.specs.declared.Written.{Written}
 use Rattle.writing.specs.Write.{writtenOf}
 
--- kind, address (big-endian), and three bytes by kind
-abbrev pub recordBytes : ℕ → ℕ → ℕ → ℕ → ℕ → List ℕ
-recordBytes kind address third fourth fifth = kind ∷ (wordBytes address ++ (third ∷ fourth ∷ fifth ∷ []))
+-- kind, address (big-endian), and three bytes by kind; document 02, Ask 8: then the bits that moved
+abbrev pub recordBytes : ℕ → ℕ → ℕ → ℕ → ℕ → ℕ → List ℕ
+recordBytes kind address third fourth fifth moved = kind ∷ (wordBytes address ++ (third ∷ fourth ∷ fifth ∷ moved ∷ []))
 
--- a write of v: v, the byte of the stage written or the control reading, and the effect
+-- a write of v: v, the byte of the stage written or the control reading, the effect, and the bits that moved
 abbrev pub writeRecord : ℕ → ℕ → Written → List ℕ
-writeRecord a v w = recordBytes 1 a v (w .byte) (w .effect)
+writeRecord a v w = recordBytes 1 a v (w .byte) (w .effect) (w .moved)
 
 -- a read: the due byte, the byte on the line, and 0 if they are equal, else 1
 abbrev pub readRecord : ℕ → ℕ → ℕ → List ℕ
-readRecord a due line = recordBytes 2 a due line (cond (eqb due line) 0 1)
+readRecord a due line = recordBytes 2 a due line (cond (eqb due line) 0 1) 0
 
 -- an abort (the paper's cut): the bits of the broken piece, and 0 in an instruction, 1 in data
 abbrev pub abortRecord : ℕ → ℕ → Bool → List ℕ
-abortRecord a bits inData = recordBytes 3 a bits (cond inData 1 0) 0
+abortRecord a bits inData = recordBytes 3 a bits (cond inData 1 0) 0 0
 
 -- the record of an event, by the banks and settings before it
 unfoldable pub recordOf : List ℕ → Banks → Settings → Event → List ℕ

@@ -50,9 +50,10 @@ fn put_record(
     third: u8,
     fourth: u8,
     fifth: u8,
+    moved: u8,
 )
     requires { ⌜ at + recordSize ≤ length (now records) ⌝ }
-    ensures { λ r. ⌜ now (records .exit) ≡ sets (now (records .entry)) at (recordBytes kind address third fourth fifth) ⌝ }
+    ensures { λ r. ⌜ now (records .exit) ≡ sets (now (records .entry)) at (recordBytes kind address third fourth fifth moved) ⌝ }
 {
     records[at] = kind;
     records[at + 1] = (address / 256) as u8;
@@ -60,6 +61,7 @@ fn put_record(
     records[at + 3] = third;
     records[at + 4] = fourth;
     records[at + 5] = fifth;
+    records[at + 6] = moved;
 }
 
 // Puts the record of a write at a place: the byte written, and what the write answered.
@@ -75,6 +77,7 @@ fn put_write(records: &mut [u8], at: usize, address: u16, byte: u8, written: Wri
         byte,
         written.byte,
         written.effect,
+        written.moved,
     );
 }
 
@@ -84,9 +87,9 @@ fn put_read(records: &mut [u8], at: usize, address: u16, due: u8, line: u8)
     ensures { λ r. ⌜ now (records .exit) ≡ sets (now (records .entry)) at (readRecord address due line) ⌝ }
 {
     if due == line {
-        put_record(records, at, READ, address, due, line, 0);
+        put_record(records, at, READ, address, due, line, 0, 0);
     } else {
-        put_record(records, at, READ, address, due, line, 1);
+        put_record(records, at, READ, address, due, line, 1, 0);
     }
 }
 
@@ -96,9 +99,9 @@ fn put_abort(records: &mut [u8], at: usize, address: u16, bits: u8, in_data: boo
     ensures { λ r. ⌜ now (records .exit) ≡ sets (now (records .entry)) at (abortRecord address bits «in_data») ⌝ }
 {
     if in_data {
-        put_record(records, at, ABORT, address, bits, 1, 0);
+        put_record(records, at, ABORT, address, bits, 1, 0, 0);
     } else {
-        put_record(records, at, ABORT, address, bits, 0, 0);
+        put_record(records, at, ABORT, address, bits, 0, 0, 0);
     }
 }
 

@@ -1,6 +1,6 @@
--- Document 01, "Records": the size of a record.
+-- Document 01, "Records", with document 02, Ask 8: the size of a record.
 use Prim.Native.Nat.{ℕ}
 
--- six bytes each
+-- seven bytes each
 abbrev pub recordSize : ℕ
-recordSize = 6
+recordSize = 7

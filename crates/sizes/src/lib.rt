@@ -1,4 +1,4 @@
 // The sizes that crates on both sides of the record buffer share.
 
 // How many bytes a record has.
-pub const RECORD: usize = 6;
+pub const RECORD: usize = 7;

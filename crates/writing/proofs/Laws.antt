@@ -1,25 +1,29 @@
 -- Laws of a write: what the code looked at decides the effect, an effect on a byte is within the banks, and a write keeps their sizes.
-use mathlib.Core.Path.{_≡_, refl, sym, _∙_}
-use mathlib.Core.Bool.{Bool, true, false, cond, _&&_, false≢true}
+use mathlib.Core.Path.{_≡_, refl, sym, _∙_, ap}
+use mathlib.Core.Bool.{Bool, true, false, cond, _&&_, xor, false≢true}
 use mathlib.Core.List.{List}
 use Prim.Native.Nat.{ℕ, _<_}
 use native.Mathlib.Omega.{arith}
 use borrow.Author.Tests.{eqb-true, eq-eqb, ne-eqb}
-use lib.ListN.{length, length-set}
+use lib.ListN.{length, getD, length-set}
+use lib.Seq.{getD-set-same}
+use lib.Bits.{bitXor}
 use lib.Dec.{eqb}
-use Rattle.bits.specs.Bits.{bitAt}
+use Rattle.bits.specs.Bits.{bitAt, merged}
 use Rattle.bits.proofs.Cases.{yes, no, each, and-left, and-right}
+use Rattle.bits.proofs.Laws.{merged-bit, xor-bit}
 use Rattle.regmap.specs.declared.Entry.{Entry}
 use Rattle.regmap.specs.Format.{registerAt, plain, buffered, control}
 use Rattle.card.specs.Card.{isMirror}
+use Rattle.settings.specs.declared.Settings.{Settings}
 use Rattle.settings.specs.Settings.{resets}
 use Rattle.registers.specs.Banks.{Banks, Mapped}
 use Rattle.registers.proofs.Laws.{mapped-defaults, mapped-transfer, in-banks}
 use Rattle.writing.specs.declared.Stages.{Stages}
 use Rattle.writing.specs.declared.Effect.{Effect}
 use Rattle.writing.specs.declared.Effect.the-variants.{Nothing, Active, Buffer, Control, Transfer, Reset, Ignored}
-use Rattle.writing.specs.Effect.{configurationEffect, controlEffect, effectOf}
-use Rattle.writing.specs.Write.{effectAt, applied, onByte, writeBanks}
+use Rattle.writing.specs.Effect.{configurationEffect, controlEffect, movedBits, effectOf}
+use Rattle.writing.specs.Write.{effectAt, applied, onByte, writeBanks, writtenBy, writtenOf}
 
 -- ---- the effect on a control register, by what the code looked at
 
@@ -53,6 +57,19 @@ module _ (a v : ℕ) where
       Apart : Effect → Type 0
       Apart e = onByte e ≡ false
 
+-- ---- the bits that moved
+
+-- Bit i of them is one exactly where the mask lets the bit through and that of v differs from the old one.
+pub moved-bit : (old v mask i : ℕ) → i < 8 → bitAt (movedBits old v mask) i ≡ (bitAt mask i && xor (bitAt old i) (bitAt v i))
+unfolding xor
+moved-bit old v mask i h =
+    xor-bit old (merged 8 old v mask) i ∙ rw (merged-bit 8 old v mask i h) (through (bitAt mask i) (bitAt old i) (bitAt v i))
+  where
+    through : (m o n : Bool) → xor o (cond m n o) ≡ (m && xor o n)
+    through true o n = refl
+    through false true n = refl
+    through false false n = refl
+
 -- ---- an effect on the banks
 
 -- an effect on a byte is within the banks
@@ -69,11 +86,26 @@ effect-within {m} {b} h s a v =
     Inside e = onByte e ≡ true → a < length (b .active)
 
 module _ {m : List ℕ} {b : Banks} (h : Mapped m b) where
+  -- What a write answers as moved is the difference of the register's byte before and after it, in the stage that it is written to.
+  pub moved-active : (t : Settings) (a v : ℕ) → registerAt m a .kind ≡ plain
+      → writtenOf m b t a v .moved ≡ bitXor (getD (b .active) a 0) (getD (writeBanks m b a v .active) a 0)
+  unfolding effectOf applied writeBanks writtenBy
+  moved-active t a v k =
+      let inside : a < length (b .active) = in-banks h k (λ z. omega arith) .0 in
+      rw k (ap (bitXor (getD (b .active) a 0)) (sym (getD-set-same (b .active) a _ 0 inside)))
+
+  pub moved-buffer : (t : Settings) (a v : ℕ) → registerAt m a .kind ≡ buffered
+      → writtenOf m b t a v .moved ≡ bitXor (getD (b .buffer) a 0) (getD (writeBanks m b a v .buffer) a 0)
+  unfolding effectOf applied writeBanks writtenBy
+  moved-buffer t a v k =
+      let inside : a < length (b .buffer) = in-banks h k (λ z. omega arith) .1 in
+      rw k (ap (bitXor (getD (b .buffer) a 0)) (sym (getD-set-same (b .buffer) a _ 0 inside)))
+
   mapped-applied : (a : ℕ) (e : Effect) → Mapped m (applied m b a e)
   unfolding applied
   mapped-applied a Nothing = h
-  mapped-applied a (Active byte) = record { active-size = simp length-set (h .active-size); buffer-size = h .buffer-size }
-  mapped-applied a (Buffer byte) = record { active-size = h .active-size; buffer-size = simp length-set (h .buffer-size) }
+  mapped-applied a (Active byte moved) = record { active-size = simp length-set (h .active-size); buffer-size = h .buffer-size }
+  mapped-applied a (Buffer byte moved) = record { active-size = h .active-size; buffer-size = simp length-set (h .buffer-size) }
   mapped-applied a Control = h
   mapped-applied a Transfer = mapped-transfer h
   mapped-applied a Reset = mapped-defaults m

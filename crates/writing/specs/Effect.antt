@@ -1,6 +1,7 @@
 -- Document 01, "What a whole byte does": the effect of a write of v.
 use Prim.Native.Nat.{ℕ}
 use mathlib.Core.Bool.{cond}
+use lib.Bits.{bitXor}
 use lib.Dec.{eqb}
 use Rattle.bits.specs.Bits.{bitAt, merged}
 use Rattle.regmap.specs.declared.Entry.{Entry}
@@ -22,11 +23,15 @@ controlEffect a v =
     (cond (eqb a 0x000F) (cond (bitAt v 0) Transfer Control)
     Control)
 
+-- Document 02, Ask 8: of a byte that takes v where the mask has ones, the bits that differ from the old one
+abbrev pub movedBits : ℕ → ℕ → ℕ → ℕ
+movedBits old v mask = bitXor old (merged 8 old v mask)
+
 -- By the register's entry and its bytes of both stages: kind 2 takes v into the active byte where the mask has ones, kind 3 into the
 -- buffer byte. A blank or read-only register takes nothing, and beyond the map a register is blank.
 unfoldable pub effectOf : Entry → Stages → ℕ → ℕ → Effect
 effectOf e s a v =
-    cond (eqb (e .kind) plain) (Active (merged 8 (s .active) v (e .mask)))
-    (cond (eqb (e .kind) buffered) (Buffer (merged 8 (s .buffer) v (e .mask)))
+    cond (eqb (e .kind) plain) (Active (merged 8 (s .active) v (e .mask)) (movedBits (s .active) v (e .mask)))
+    (cond (eqb (e .kind) buffered) (Buffer (merged 8 (s .buffer) v (e .mask)) (movedBits (s .buffer) v (e .mask)))
     (cond (eqb (e .kind) control) (controlEffect a v)
     Nothing))

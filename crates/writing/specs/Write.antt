@@ -25,8 +25,8 @@ effectAt m b a v = effectOf (registerAt m a) (stagesAt b a) a v
 -- an effect applied to the banks
 unfoldable pub applied : List ℕ → Banks → ℕ → Effect → Banks
 applied m b a Nothing = b
-applied m b a (Active byte) = banks (set (b .active) a byte) (b .buffer)
-applied m b a (Buffer byte) = banks (b .active) (set (b .buffer) a byte)
+applied m b a (Active byte moved) = banks (set (b .active) a byte) (b .buffer)
+applied m b a (Buffer byte moved) = banks (b .active) (set (b .buffer) a byte)
 applied m b a Control = b
 applied m b a Transfer = transferred m b
 applied m b a Reset = defaultBanks m
@@ -36,23 +36,24 @@ applied m b a Ignored = b
 unfoldable pub writeBanks : List ℕ → Banks → ℕ → ℕ → Banks
 writeBanks m b a v = applied m b a (effectAt m b a v)
 
-abbrev pub written : ℕ → ℕ → Written
-written byte effect = record { byte = byte; effect = effect }
+abbrev pub written : ℕ → ℕ → ℕ → Written
+written byte effect moved = record { byte = byte; effect = effect; moved = moved }
 
 -- a control register answers its reading afterwards
 abbrev pub controlWritten : Settings → ℕ → ℕ → ℕ → Written
-controlWritten t a v effect = written (controlReading (settingsAfter t a v) a) effect
+controlWritten t a v effect = written (controlReading (settingsAfter t a v) a) effect 0
 
 -- What a write answers: the byte of the stage written, or the control reading, afterwards, and the number of its effect; 0 with
--- effect 0. Document 02, Ask 2: a byte that is ignored has effect 0 too, with the unchanged reading.
+-- effect 0. Document 02, Ask 2: a byte that is ignored has effect 0 too, with the unchanged reading. Ask 8: with effects 1 and 2 also the
+-- bits that moved, 0 otherwise.
 unfoldable pub writtenBy : Settings → ℕ → ℕ → Effect → Written
-writtenBy t a v Nothing = written 0 0
-writtenBy t a v (Active byte) = written byte 1
-writtenBy t a v (Buffer byte) = written byte 2
+writtenBy t a v Nothing = written 0 0 0
+writtenBy t a v (Active byte moved) = written byte 1 moved
+writtenBy t a v (Buffer byte moved) = written byte 2 moved
 writtenBy t a v Control = controlWritten t a v 3
 writtenBy t a v Transfer = controlWritten t a v 4
 writtenBy t a v Reset = controlWritten t a v 5
-writtenBy t a v Ignored = written (controlReading t a) 0
+writtenBy t a v Ignored = written (controlReading t a) 0 0
 
 abbrev pub writtenOf : List ℕ → Banks → Settings → ℕ → ℕ → Written
 writtenOf m b t a v = writtenBy t a v (effectAt m b a v)
@@ -65,8 +66,8 @@ pub record Wrote (m : List ℕ) (before : Banks) (t : Settings) (a v : ℕ) (ans
 -- the effect is on the byte of one register
 abbrev pub onByte : Effect → Bool
 onByte Nothing = false
-onByte (Active byte) = true
-onByte (Buffer byte) = true
+onByte (Active byte moved) = true
+onByte (Buffer byte moved) = true
 onByte Control = false
 onByte Transfer = false
 onByte Reset = false

@@ -4,7 +4,7 @@ ghost use mathlib.Core.Bool.{true};
 ghost use Prim.Native.Nat.{_<_};
 ghost use lib.ListN.{length};
 ghost use Rattle.registers.specs.Banks.{banks, Mapped};
-ghost use Rattle.writing.specs.Write.{stagesAt, applied, onByte, controlWritten, writtenBy, Wrote};
+ghost use Rattle.writing.specs.Write.{stagesAt, applied, onByte, written, controlWritten, writtenBy, Wrote};
 
 mod rule;
 
@@ -17,10 +17,10 @@ use settings::Settings;
 // What a write does to the registers.
 pub enum Effect {
     Nothing,
-    // The active byte of the register becomes this one.
-    Active(u8),
+    // The active byte of the register becomes this one, and these bits of it differ from the old one.
+    Active { byte: u8, moved: u8 },
     // Its buffer byte does.
-    Buffer(u8),
+    Buffer { byte: u8, moved: u8 },
     // Settings alone may change.
     Control,
     // Every buffered register's active byte takes its buffer byte.
@@ -31,10 +31,11 @@ pub enum Effect {
     Ignored,
 }
 
-// What the write of one register answers: the byte to record, and the number of the effect.
+// What the write of one register answers: the byte to record, the number of the effect, and the bits of the byte that moved.
 pub struct Written {
     pub byte: u8,
     pub effect: u8,
+    pub moved: u8,
 }
 
 // The bytes of one register in both stages.
@@ -60,6 +61,17 @@ fn stages_at(active: &[u8], buffer: &[u8], at: usize) -> Stages
     }
 }
 
+// What a write that changes nothing answers, with the byte to record.
+fn untaken(byte: u8) -> Written
+    ensures { λ r. ⌜ r ≡ written byte 0 0 ⌝ }
+{
+    Written {
+        byte: byte,
+        effect: 0,
+        moved: 0,
+    }
+}
+
 // What a write of v to a control register answers: its reading afterwards, and the number of the effect.
 fn control_answer(settings: Settings, address: u16, v: u8, effect: u8) -> Written
     ensures { λ r. ⌜ r ≡ controlWritten settings address v effect ⌝ }
@@ -68,6 +80,7 @@ fn control_answer(settings: Settings, address: u16, v: u8, effect: u8) -> Writte
     Written {
         byte: after.reading(address),
         effect: effect,
+        moved: 0,
     }
 }
 
@@ -87,19 +100,21 @@ fn apply(
 {
     let at = address as usize;
     match effect {
-        Effect::Nothing => Written { byte: 0, effect: 0 },
-        Effect::Active(byte) => {
+        Effect::Nothing => untaken(0),
+        Effect::Active { byte, moved } => {
             active[at] = byte;
             Written {
                 byte: byte,
                 effect: 1,
+                moved: moved,
             }
         }
-        Effect::Buffer(byte) => {
+        Effect::Buffer { byte, moved } => {
             buffer[at] = byte;
             Written {
                 byte: byte,
                 effect: 2,
+                moved: moved,
             }
         }
         Effect::Control => control_answer(settings, address, v, 3),
@@ -111,10 +126,7 @@ fn apply(
             reset(map, active, buffer);
             control_answer(settings, address, v, 5)
         }
-        Effect::Ignored => Written {
-            byte: settings.reading(address),
-            effect: 0,
-        },
+        Effect::Ignored => untaken(settings.reading(address)),
     }
 }
 

@@ -43,10 +43,18 @@ pub fn effect_of(register: Entry, stages: Stages, address: u16, v: u8) -> Effect
     ensures { λ r. ⌜ r ≡ effectOf register stages address v ⌝ }
 {
     if register.kind == PLAIN {
-        return Effect::Active(merge(stages.active, v, register.mask));
+        let byte = merge(stages.active, v, register.mask);
+        return Effect::Active {
+            byte: byte,
+            moved: stages.active ^ byte,
+        };
     }
     if register.kind == BUFFERED {
-        return Effect::Buffer(merge(stages.buffer, v, register.mask));
+        let byte = merge(stages.buffer, v, register.mask);
+        return Effect::Buffer {
+            byte: byte,
+            moved: stages.buffer ^ byte,
+        };
     }
     if register.kind == CONTROL {
         return control_effect(address, v);

@@ -167,7 +167,7 @@ impl Chain {
         let mut given = self.given.clone();
         given.samples = rest[..length.min(rest.len())].to_vec();
         let due = given.records_due(call);
-        let extra = random.pick(&[0, 0, 0, 1, 5, 6, 7, 100]);
+        let extra = random.pick(&[0, 0, 0, 1, 6, 7, 8, 100]);
         given.records = random.bytes(RECORD * due + extra);
         if call == Call::Open {
             given.session = random.bytes(SESSION_SIZE).try_into().expect("a session's size");

@@ -187,16 +187,23 @@ impl Master<'_> {
             ]),
             0x0001 => self.random.pick(&[0x00, 0x80, 0x20, 0x10, 0xA0, 0xB0, 0x4F, 0xFF]),
             0x000F => self.random.pick(&[0x01, 0x01, 0x00, 0xFE, 0xFF]),
+            // Now and then what the register may hold already, so that no bit moves.
+            _ if self.random.one_in(6) => self.default(address),
+            _ if self.random.one_in(6) => self.last_written,
             _ => self.random.byte(),
         }
     }
 
+    /// The register's default, or 0 beyond the map.
+    fn default(&self, address: u16) -> u8 {
+        self.map.get(entry_at(usize::from(address)) + 2).copied().unwrap_or(0)
+    }
+
     /// A byte that a chip might answer with.
     fn answer(&mut self, address: u16) -> u8 {
-        let default = self.map.get(entry_at(usize::from(address)) + 2);
         match self.random.below(4) {
             0 => 0,
-            1 => default.copied().unwrap_or(0),
+            1 => self.default(address),
             2 => self.last_written,
             _ => self.random.byte(),
         }

@@ -7,7 +7,7 @@ use super::session::{Event, Session};
 use super::settings::Settings;
 use super::Answer;
 
-pub const RECORD: usize = 6;
+pub const RECORD: usize = 7;
 const MOST_SAMPLES: usize = 65_536;
 
 pub const WRITE: u8 = 1;
@@ -145,17 +145,19 @@ fn record_of(event: Event, registers: &mut Registers, settings: Settings) -> [u8
     match event {
         Event::Written { address, byte } => {
             let written = registers.write(address, byte, settings);
-            record(WRITE, address, [byte, written.byte, written.effect])
+            record(WRITE, address, [byte, written.byte, written.effect], written.moved)
         }
         Event::Read { address, byte } => {
             let due = registers.due(address, settings);
-            record(READ, address, [due, byte, u8::from(due != byte)])
+            record(READ, address, [due, byte, u8::from(due != byte)], 0)
         }
-        Event::Cut { address, bits, in_data } => record(CUT, address, [bits, u8::from(in_data), 0]),
+        Event::Cut { address, bits, in_data } => {
+            record(CUT, address, [bits, u8::from(in_data), 0], 0)
+        }
     }
 }
 
-fn record(kind: u8, address: u16, rest: [u8; 3]) -> [u8; RECORD] {
+fn record(kind: u8, address: u16, rest: [u8; 3], moved: u8) -> [u8; RECORD] {
     let [high, low] = address.to_be_bytes();
-    [kind, high, low, rest[0], rest[1], rest[2]]
+    [kind, high, low, rest[0], rest[1], rest[2], moved]
 }

@@ -19,10 +19,12 @@ pub struct Registers<'a> {
     buffer: &'a mut [u8],
 }
 
-/// What a write leaves: the byte of the stage written, or the control reading.
+/// What a write leaves: the byte of the stage written, or the control reading;
+/// and the bits of that stage that moved (document 02, Ask 8).
 pub struct Written {
     pub byte: u8,
     pub effect: u8,
+    pub moved: u8,
 }
 
 impl<'a> Registers<'a> {
@@ -52,18 +54,14 @@ impl<'a> Registers<'a> {
     pub fn write(&mut self, address: u16, v: u8, settings: Settings) -> Written {
         let at = usize::from(address);
         match self.map.entry(address) {
-            None | Some([BLANK | READ_ONLY, ..]) => Written { byte: 0, effect: NO_EFFECT },
-            Some([PLAIN, mask, _]) => {
-                self.active[at] = merge(self.active[at], mask, v);
-                Written { byte: self.active[at], effect: ACTIVE_WRITTEN }
+            None | Some([BLANK | READ_ONLY, ..]) => {
+                Written { byte: 0, effect: NO_EFFECT, moved: 0 }
             }
-            Some([BUFFERED, mask, _]) => {
-                self.buffer[at] = merge(self.buffer[at], mask, v);
-                Written { byte: self.buffer[at], effect: BUFFER_WRITTEN }
-            }
+            Some([PLAIN, mask, _]) => write_stage(&mut self.active[at], mask, v, ACTIVE_WRITTEN),
+            Some([BUFFERED, mask, _]) => write_stage(&mut self.buffer[at], mask, v, BUFFER_WRITTEN),
             Some(_) => {
                 let effect = self.write_control(address, v);
-                Written { byte: settings.control_reading(address), effect }
+                Written { byte: settings.control_reading(address), effect, moved: 0 }
             }
         }
     }
@@ -102,6 +100,13 @@ impl<'a> Registers<'a> {
             Some(_) => self.active[at],
         }
     }
+}
+
+/// Writes one stage of a register, and tells which of its bits differ now.
+fn write_stage(stage: &mut u8, mask: u8, v: u8, effect: u8) -> Written {
+    let old = *stage;
+    *stage = merge(old, mask, v);
+    Written { byte: *stage, effect, moved: old ^ *stage }
 }
 
 /// The new bits where the mask has ones, the old ones elsewhere.

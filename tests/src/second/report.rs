@@ -11,8 +11,8 @@ use super::settings::asks_slow;
 pub const PIECE: usize = 4_096;
 const LARGEST_COUNT: usize = 8_192;
 const LARGEST_MAP: usize = 24_581;
-/// One record as a line: `W 000A 3C 3C 1` and its end.
-const LINE: usize = 15;
+/// One record as a line: `W 000A 3C 3C 1 3C` and its end.
+const LINE: usize = 18;
 
 /// The text for a whole input.
 pub fn report(input: &[u8]) -> Vec<u8> {
@@ -110,13 +110,13 @@ fn lines<'a>(records: &[[u8; RECORD]], text: &'a mut [u8]) -> &'a [u8] {
     &text[..LINE * records.len()]
 }
 
-fn write_line(&[kind, high, low, third, fourth, fifth]: &[u8; RECORD], line: &mut [u8; LINE]) {
+fn write_line(record: &[u8; RECORD], line: &mut [u8; LINE]) {
     const KINDS: &[u8; 4] = b"?WRC";
     const DIGITS: &[u8; 16] = b"0123456789ABCDEF";
     let digits = |byte: u8| [DIGITS[usize::from(byte >> 4)], DIGITS[usize::from(byte & 0x0F)]];
+    let &[kind, high, low, third, fourth, fifth, moved] = record;
     let ([a, b], [c, d]) = (digits(high), digits(low));
     let ([e, f], [g, h]) = (digits(third), digits(fourth));
-    let letter = KINDS[usize::from(kind)];
-    let last = DIGITS[usize::from(fifth)];
-    *line = [letter, b' ', a, b, c, d, b' ', e, f, b' ', g, h, b' ', last, b'\n'];
+    let (letter, i, [j, k]) = (KINDS[usize::from(kind)], DIGITS[usize::from(fifth)], digits(moved));
+    *line = [letter, b' ', a, b, c, d, b' ', e, f, b' ', g, h, b' ', i, b' ', j, k, b'\n'];
 }

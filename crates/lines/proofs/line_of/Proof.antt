@@ -22,6 +22,9 @@ shared-slice-read-third c = search needs
 shared-slice-read-fourth : tie.Need-shared-slice-read-fourth
 shared-slice-read-fourth c = search needs
 
+shared-slice-read-moved : tie.Need-shared-slice-read-moved
+shared-slice-read-moved c = search needs
+
 shared-slice-read-letter : tie.Need-shared-slice-read-letter
 shared-slice-read-letter c = search needs
 
@@ -36,25 +39,25 @@ low-digit : (x : ℕ) → x % 16 < 16
 low-digit x = omega arith
 
 digit-requires : tie.Need-digit-requires
-digit-requires c κs = high-digit _ (c .before .shared-slice-known6 .given 1)
+digit-requires c κs = high-digit _ (c .before .shared-slice-known7 .given 1)
 
 digit-requires-2 : tie.Need-digit-requires-2
 digit-requires-2 c κs = low-digit _
 
 digit-requires-3 : tie.Need-digit-requires-3
-digit-requires-3 c κs = high-digit _ (c .before .before .before .shared-slice-known6 .given 2)
+digit-requires-3 c κs = high-digit _ (c .before .before .before .shared-slice-known7 .given 2)
 
 digit-requires-4 : tie.Need-digit-requires-4
 digit-requires-4 c κs = low-digit _
 
 digit-requires-5 : tie.Need-digit-requires-5
-digit-requires-5 c κs = high-digit _ (c .before .before .before .before .before .shared-slice-known6 .given 3)
+digit-requires-5 c κs = high-digit _ (c .before .before .before .before .before .shared-slice-known7 .given 3)
 
 digit-requires-6 : tie.Need-digit-requires-6
 digit-requires-6 c κs = low-digit _
 
 digit-requires-7 : tie.Need-digit-requires-7
-digit-requires-7 c κs = high-digit _ (c .before .before .before .before .before .before .before .shared-slice-known6 .given 4)
+digit-requires-7 c κs = high-digit _ (c .before .before .before .before .before .before .before .shared-slice-known7 .given 4)
 
 digit-requires-8 : tie.Need-digit-requires-8
 digit-requires-8 c κs = low-digit _
@@ -65,10 +68,17 @@ shared-slice-read-digit c = search needs
 digit-requires-9 : tie.Need-digit-requires-9
 digit-requires-9 c κs = low-digit _
 
+digit-requires-10 : tie.Need-digit-requires-10
+digit-requires-10 c κs = high-digit _ (c .before .shared-slice-known8 .given 6)
+
+digit-requires-11 : tie.Need-digit-requires-11
+digit-requires-11 c κs = low-digit _
+
 returns : tie.Need-returns
 unfolding lineOf
 returns c =
-    let c₈ = c .before .before in
+    let c₉ = c .before .before in
+    let c₈ = c₉ .before .before in
     let c₆ = c₈ .before .before in
     let c₄ = c₆ .before .before in
     let c₂ = c₄ .before .before in
@@ -77,7 +87,8 @@ returns c =
     ++ (c₂ .before .digit .ensures i ∷ c₂ .digit2 .ensures i ∷ c₄ .before .digit3 .ensures i ∷ c₄ .digit4 .ensures i ∷ bytesOf " ")
     ++ (c₆ .before .digit5 .ensures i ∷ c₆ .digit6 .ensures i ∷ bytesOf " ")
     ++ (c₈ .before .digit7 .ensures i ∷ c₈ .digit8 .ensures i ∷ bytesOf " ")
-    ++ c .digit9 .ensures i ∷ bytesOf "\n"
+    ++ (c₉ .digit9 .ensures i ∷ bytesOf " ")
+    ++ (c .before .digit10 .ensures i ∷ c .digit11 .ensures i ∷ bytesOf "\n")
 
 pub line-of-spec : {M : Type 1} → statement M
 line-of-spec =
@@ -87,6 +98,7 @@ line-of-spec =
     shared-slice-read-low
     shared-slice-read-third
     shared-slice-read-fourth
+    shared-slice-read-moved
     shared-slice-read-letter
     letter-requires
     digit-requires
@@ -99,4 +111,6 @@ line-of-spec =
     digit-requires-8
     shared-slice-read-digit
     digit-requires-9
+    digit-requires-10
+    digit-requires-11
     returns)

@@ -1,4 +1,4 @@
--- `put_read` meets its contract: the last byte says whether the two bytes differ.
+-- `put_read` meets its contract: byte 5 says whether the two bytes differ.
 use borrow.Author.Needs.{needs}
 use borrow.Author.Tests.{eq-eqb, ne-eqb}
 use Rattle.records.proofs.put_read.Statement.{statement}

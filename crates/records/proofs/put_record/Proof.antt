@@ -46,6 +46,12 @@ add-records-5 c = search needs
 slice-write-records-6 : tie.Need-slice-write-records-6
 slice-write-records-6 c = simp length-set (omega arith)
 
+add-records-6 : tie.Need-add-records-6
+add-records-6 c = search needs
+
+slice-write-records-7 : tie.Need-slice-write-records-7
+slice-write-records-7 c = simp length-set (omega arith)
+
 same-length : tie.Need-same-length
 same-length c = simp length-set
 
@@ -57,7 +63,8 @@ returns c =
     let e3 : at + 3 ≡ suc (suc (suc at)) = omega arith in
     let e4 : at + 4 ≡ suc (suc (suc (suc at))) = omega arith in
     let e5 : at + 5 ≡ suc (suc (suc (suc (suc at)))) = omega arith in
-    rw (e1, e2, e3, e4, e5)
+    let e6 : at + 6 ≡ suc (suc (suc (suc (suc (suc at))))) = omega arith in
+    rw (e1, e2, e3, e4, e5, e6)
 
 pub put-record-spec : {M : Type 1} → statement M
 put-record-spec =
@@ -76,5 +83,7 @@ put-record-spec =
     slice-write-records-5
     add-records-5
     slice-write-records-6
+    add-records-6
+    slice-write-records-7
     same-length
     returns)

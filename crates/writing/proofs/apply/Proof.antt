@@ -9,6 +9,9 @@ use Rattle.writing.proofs.apply.Tie as tie
 enum-told : tie.Need-enum-told
 enum-told c = search needs
 
+untaken-requires : tie.Need-untaken-requires
+untaken-requires c κs = search needs
+
 enum-known-effect : tie.Need-enum-known-effect
 enum-known-effect c = search needs
 
@@ -53,9 +56,12 @@ enum-told-5 c = search needs
 reading-requires : tie.Need-reading-requires
 reading-requires c κs = search needs
 
+untaken-requires-2 : tie.Need-untaken-requires-2
+untaken-requires-2 c κs = search needs
+
 returns : tie.Need-returns
 unfolding applied writtenBy
-returns c = rw (c .enum-told .given .1) (refl, refl)
+returns c = rw (c .before .enum-told .given .1) (c .untaken .ensures, refl)
 
 same-length : tie.Need-same-length
 same-length c = search needs
@@ -97,13 +103,14 @@ returns-6 c = rw (c .before .before .before .before .before .before .before .bef
 
 returns-7 : tie.Need-returns-7
 unfolding applied writtenBy
-returns-7 c = rw (c .before .enum-told5 .given .1) (rw (c .reading .ensures), refl)
+returns-7 c = rw (c .before .before .enum-told5 .given .1) (rw (← c .before .reading .ensures) (c .untaken2 .ensures), refl)
 
 pub apply-spec : {M : Type 1} → statement M
 apply-spec =
     tie.close
     (tie.spec
     enum-told
+    untaken-requires
     enum-known-effect
     slice-write-active
     enum-known-effect-2
@@ -118,6 +125,7 @@ apply-spec =
     control-answer-requires-3
     enum-told-5
     reading-requires
+    untaken-requires-2
     returns
     same-length
     returns-2

@@ -3,6 +3,7 @@ use borrow.Author.Needs.{needs}
 use borrow.Author.Tests.{eq-eqb, ne-eqb}
 use mathlib.Core.Path.{ap}
 use Prim.Native.Nat.{ℕ}
+use lib.Bits.{bitXor}
 use Rattle.writing.specs.declared.Effect.the-variants.{Active, Buffer}
 use Rattle.writing.specs.Effect.{effectOf}
 use Rattle.writing.proofs.rule.effect_of.Statement.{statement}
@@ -13,7 +14,9 @@ merge-requires c κs = search needs
 
 returns : tie.Need-returns
 unfolding effectOf
-returns c = rw (eq-eqb _ _ (c .before .if1 .taken)) (ap (λ (x : ℕ). Active x) (c .merge .ensures))
+returns c =
+    let at = c .before .before in
+    rw (eq-eqb _ _ (at .if1 .taken)) (ap (λ (x : ℕ). Active x (bitXor (at .before .before .args .stages .active) x)) (c .before .merge .ensures))
 
 merge-requires-2 : tie.Need-merge-requires-2
 merge-requires-2 c κs = search needs
@@ -21,8 +24,10 @@ merge-requires-2 c κs = search needs
 returns-2 : tie.Need-returns-2
 unfolding effectOf
 returns-2 c =
-    rw (ne-eqb _ _ (c .before .before .before .if1 .left), eq-eqb _ _ (c .before .if2 .taken))
-    (ap (λ (x : ℕ). Buffer x) (c .merge2 .ensures))
+    let at = c .before .before in
+    let else = at .before .before in
+    rw (ne-eqb _ _ (else .if1 .left), eq-eqb _ _ (at .if2 .taken))
+    (ap (λ (x : ℕ). Buffer x (bitXor (else .before .before .args .stages .buffer) x)) (c .before .merge2 .ensures))
 
 control-effect-requires : tie.Need-control-effect-requires
 control-effect-requires c κs = search needs
