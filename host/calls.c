@@ -185,6 +185,39 @@ static void check_next(void)
           "the rest gives no record, and needs no room");
 }
 
+/* Both ways, from a map of version 1, into a buffer with so much room; the rest of it is as before. */
+static void check_convert(void)
+{
+    uint8_t flagged[60];
+    uint8_t back[60];
+    uint64_t length = 12345;
+
+    memset(flagged, PATTERN, sizeof flagged);
+    check(couplingnut_to_version_2(map, sizeof map, flagged, 53, &length) == COUPLINGNUT_SHORT_OUT && length == 0 &&
+              flagged[0] == PATTERN,
+          "53 bytes for a map of version 2 are refused 11, and nothing is written");
+    check(couplingnut_to_version_2(map, sizeof map, flagged, 54, &length) == COUPLINGNUT_DONE && length == 54 &&
+              flagged[54] == PATTERN,
+          "a map of 53 bytes is one of 54 in version 2");
+    check(flagged[1] == 0x34 && flagged[2] == 2 && flagged[5] == 0 && memcmp(flagged + 6, map + 5, 48) == 0,
+          "its length is 4 + 3n, its flags are 0, and the entries follow");
+    check(couplingnut_map_test(flagged, 54) == COUPLINGNUT_DONE, "it passes the map test");
+    memset(back, PATTERN, sizeof back);
+    check(couplingnut_to_version_1(flagged, 54, back, sizeof back, &length) == COUPLINGNUT_DONE && length == sizeof map &&
+              memcmp(back, map, sizeof map) == 0 && back[53] == PATTERN,
+          "back again, every byte is as it was");
+    flagged[5] = 1;
+    memset(back, PATTERN, sizeof back);
+    check(couplingnut_to_version_1(flagged, 54, back, 0, &length) == COUPLINGNUT_FLAG_LOST && length == 0,
+          "with bit 0 set there is no way back: 13, before 11");
+    check(couplingnut_to_version_2(flagged, 54, back, sizeof back, &length) == COUPLINGNUT_DONE && length == 54 &&
+              memcmp(back, flagged, 54) == 0,
+          "a map of the wished version is copied, flag and all");
+    flagged[5] = 2;
+    check(couplingnut_to_version_2(flagged, 54, back, sizeof back, &length) == COUPLINGNUT_BAD_MAP_FORM && length == 0,
+          "a reserved flag is refused 2");
+}
+
 static void check_words(void)
 {
     const char *none = couplingnut_message(12);
@@ -192,7 +225,10 @@ static void check_words(void)
     uint32_t j;
     int unlike = 1;
 
-    for (i = 0; i <= 11; i++) {
+    for (i = 0; i <= 13; i++) {
+        if (i == 12) {
+            continue;
+        }
         unlike = unlike && strcmp(couplingnut_message(i), none) != 0;
         for (j = 0; j < i; j++) {
             unlike = unlike && strcmp(couplingnut_message(i), couplingnut_message(j)) != 0;
@@ -207,6 +243,7 @@ int main(void)
     check_open();
     check_read();
     check_next();
+    check_convert();
     check_map();
     check_send();
     check_words();

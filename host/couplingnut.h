@@ -22,9 +22,10 @@
  *                          records, sizeof records, &count);
  *         (`count` records of 7 bytes stand at the start of `records`)
  *
- * THE MAP is bytes that say what registers the chip has: 2 bytes, how many bytes follow them; 1 byte, the version, 1; 2 bytes,
- * the number n of registers, 16 to 8,192; then for each register, from address 0 on, 3 bytes: kind (0 blank, 1 read-only,
- * 2 plain, 3 buffered, 4 control), mask of the bits that can be written, default. Numbers of 2 bytes have the high byte first.
+ * THE MAP is bytes that say what registers the chip has: 2 bytes, how many bytes follow them; 1 byte, the version, 1 or 2;
+ * 2 bytes, the number n of registers, 16 to 8,192; in version 2 a flag byte, 0 or 1; then for each register, from address 0 on,
+ * 3 bytes: kind (0 blank, 1 read-only, 2 plain, 3 buffered, 4 control), mask of the bits that can be written, default. Numbers
+ * of 2 bytes have the high byte first. Bit 0 of the flags means a transfer as the select rises; no call acts by it yet.
  *
  * THE BANKS are two pieces of memory of n bytes each that the caller keeps. `active` holds what is in force, `buffer` what was
  * written to buffered registers and waits for a transfer. Between the calls on one recording nobody else writes them.
@@ -39,7 +40,7 @@
  * and last, of a write with effect 1 or 2, the bits in which the register's byte, or its buffer's, differs from the one before it;
  * 0 in all others.
  *
- * Each call gives back a number, the lowest that applies; they are listed below.
+ * Each call gives back a number, the lowest that applies (of the converter 13 before 11); they are listed below.
  */
 #ifndef COUPLINGNUT_H
 #define COUPLINGNUT_H
@@ -62,7 +63,7 @@ extern "C" {
 enum couplingnut_number {
     COUPLINGNUT_DONE = 0,
     COUPLINGNUT_BAD_SESSION = 1,        /* the bytes are no session, or one that no samples could go on from */
-    COUPLINGNUT_BAD_MAP_FORM = 2,       /* the map's length, version or n is wrong, or it has fewer than 5 bytes */
+    COUPLINGNUT_BAD_MAP_FORM = 2,       /* the map's length, version, n or flags are wrong, or it has fewer than 5 bytes */
     COUPLINGNUT_BAD_MAP_ENTRY = 3,      /* a register of the map breaks a rule */
     COUPLINGNUT_BAD_BANK = 4,           /* a bank isn't n bytes */
     COUPLINGNUT_BAD_SAMPLES = 5,        /* more than 65,536 samples, or one with any of bits 4 to 7 set */
@@ -71,12 +72,16 @@ enum couplingnut_number {
     COUPLINGNUT_BAD_COUNT = 8,          /* the count isn't 1 to 1,000, or the data isn't as long as it says (a read has none) */
     COUPLINGNUT_BAD_START = 9,          /* the start address is above 0x7FFF */
     COUPLINGNUT_BAD_SINGLE = 10,        /* a single-instruction write with 0x0000 or 0x0001 anywhere but last */
-    COUPLINGNUT_SHORT_OUT = 11          /* the outgoing buffer is too short */
+    COUPLINGNUT_SHORT_OUT = 11,         /* the outgoing buffer is too short */
+    COUPLINGNUT_FLAG_LOST = 13          /* a map with a flag set has no version 1 */
 };
 
 /* How many bytes a record has, and how many hold the records of so many samples, whatever they are. */
 enum { COUPLINGNUT_RECORD_SIZE = 7 };
 #define COUPLINGNUT_RECORDS_SIZE(samples) (COUPLINGNUT_RECORD_SIZE * (((samples) + 2) / 3))
+
+/* No map has more bytes. */
+enum { COUPLINGNUT_MOST_MAP = 24582 };
 
 /* No call of the reader takes more samples. */
 enum { COUPLINGNUT_MOST_READ = 65536 };
@@ -117,17 +122,28 @@ enum { COUPLINGNUT_MOST_SAMPLES = 48003 };
  * The caller owes, for each call:
  *   - Each pointer with a length after it points to as many bytes as the length says. It is not null, also where that length
  *     is 0.
- *   - session points to a session, and count, taken and samples to a number each. They are not null.
+ *   - session points to a session, and count, taken, samples and length to a number each. They are not null.
  *   - What isn't const overlaps nothing else that is passed, and nobody else uses it during the call; nobody writes what is.
  * Nothing else: every value of every byte and number is allowed, and tested before it is cut to a smaller type.
  *
- * A refusal (any number but 0) puts 0 in *count, *taken and *samples, and leaves all else that was lent as it was. Only opening
- * puts the opened session into *session even then.
+ * A refusal (any number but 0) puts 0 in *count, *taken, *samples and *length, and leaves all else that was lent as it was.
+ * Only opening puts the opened session into *session even then.
  */
 
 /* Tests a register map: 0, 2 or 3. */
 COUPLINGNUT_NOT_NULL
 uint32_t couplingnut_map_test(const uint8_t *map, size_t map_length);
+
+/*
+ * Puts the map, as one of version 1 or 2, at the start of out, how many bytes it is in *length: 0, 2, 3 or 11, and to version 1
+ * also 13, which comes before 11. The rest of out is unchanged. A map of the wished version is copied; version 2 is made with
+ * flags 0.
+ */
+COUPLINGNUT_NOT_NULL
+uint32_t couplingnut_to_version_1(const uint8_t *map, size_t map_length, uint8_t *out, size_t out_length, uint64_t *length);
+
+COUPLINGNUT_NOT_NULL
+uint32_t couplingnut_to_version_2(const uint8_t *map, size_t map_length, uint8_t *out, size_t out_length, uint64_t *length);
 
 /* Puts the default of each register in both banks, and the opened session into *session: 0, or 2 to 4. */
 COUPLINGNUT_NOT_NULL
@@ -160,7 +176,7 @@ COUPLINGNUT_NOT_NULL
 uint32_t couplingnut_send(uint64_t direction, uint64_t settings, uint64_t start, uint64_t count, const uint8_t *data,
                           size_t data_length, uint8_t *out, size_t out_length, uint64_t *samples);
 
-/* What a number says and what to do, in words, for 0 to 11; never null. Its code is host/message.c. */
+/* What a number says and what to do, in words, for 0 to 11 and 13; never null. Its code is host/message.c. */
 const char *couplingnut_message(uint32_t number);
 
 /* An order to the sender. */

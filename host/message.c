@@ -7,7 +7,7 @@
 static const char *const messages[] = {
     "done",
     "the session is not sound; hand in the one that opening or the last call gave",
-    "the map's length, version or number of registers is wrong, or the input ended inside the map; make the map again, "
+    "the map's length, version, number of registers or flags are wrong, or the input ended inside the map; make the map again, "
     "and check that only the samples follow it",
     "an entry of the map breaks a rule; correct its kind, mask or default, or what 0x0000 to 0x000F must be",
     "a bank is not as long as the map has registers; lend two banks of as many bytes",
@@ -18,12 +18,15 @@ static const char *const messages[] = {
     "the count is not 1 to 1,000, or the data is not as long as it says; split the run, and give a read no data",
     "the start address is above 0x7FFF; addresses have 15 bits",
     "a single-instruction write has 0x0000 or 0x0001 anywhere but last; end the run with that byte, or write it on its own",
-    "the outgoing buffer is too short; lend 35 + 16 bytes for each byte of the run, or 3 + 48 with single instruction",
+    "the outgoing buffer is too short; lend 35 + 16 bytes for each byte of the run, or 3 + 48 with single instruction; for a "
+    "map 5 + 3 for each register, or 6 + 3 in version 2",
+    NULL,
+    "the map has a flag set, which version 1 has no place for; keep it in version 2, or clear the flag",
 };
 
 const char *couplingnut_message(uint32_t number)
 {
-    if (number >= sizeof messages / sizeof messages[0]) {
+    if (number >= sizeof messages / sizeof messages[0] || messages[number] == NULL) {
         return "no call gives this number";
     }
     return messages[number];

@@ -21,7 +21,7 @@ import os
 from typing import NamedTuple
 
 __all__ = ['Record', 'Refused', 'Session', 'Settings', 'SettingsInUse', 'banks', 'map_test', 'message', 'next_record', 'open', 'read',
-           'send', 'WRITE', 'READ', 'LSB_FIRST', 'ASCENDING', 'SINGLE_INSTRUCTION']
+           'send', 'to_version_1', 'to_version_2', 'WRITE', 'READ', 'LSB_FIRST', 'ASCENDING', 'SINGLE_INSTRUCTION']
 
 # The direction of an order, and what its settings number is the sum of.
 WRITE, READ = 0, 1
@@ -30,6 +30,7 @@ LSB_FIRST, ASCENDING, SINGLE_INSTRUCTION = 1, 2, 4
 SESSION_SIZE = 19
 RECORD_SIZE = 7
 MOST_SAMPLES = 48003  # No order gives more.
+MOST_MAP = 24582  # No map is longer.
 PHASES = ('rest', 'instruction', 'data')
 
 
@@ -47,7 +48,9 @@ def _declared(library):
     wide, told = ctypes.c_uint64, ctypes.POINTER(ctypes.c_uint64)
     opening = [given, size, lent, lent, size, lent, size]
     reading = opening + [given, size, lent, size, told]
-    for name, types in [('map_test', [given, size]), ('open', opening), ('read', reading), ('next_record', reading + [told]),
+    converting = [given, size, lent, size, told]
+    for name, types in [('map_test', [given, size]), ('to_version_1', converting), ('to_version_2', converting),
+                        ('open', opening), ('read', reading), ('next_record', reading + [told]),
                         ('send', [wide, wide, wide, wide, given, size, lent, size, told])]:
         call = getattr(library, 'couplingnut_' + name)
         call.argtypes, call.restype = types, ctypes.c_uint32
@@ -212,6 +215,22 @@ def map_test(map):
     """Refuses bytes that are no good register map (2, 3)."""
     map = bytes(map)
     _accept(_LIBRARY.couplingnut_map_test(map, len(map)))
+
+
+def _converted(call, map, room):
+    map, out, length = bytes(map), bytearray(room), ctypes.c_uint64()
+    _accept(call(map, len(map), *_lent(out), ctypes.byref(length)))
+    return bytes(out[:length.value])
+
+
+def to_version_1(map, room=MOST_MAP):
+    """A map of either version as one of version 1. Refused: 2, 3; 13, where it has a flag set; 11."""
+    return _converted(_LIBRARY.couplingnut_to_version_1, map, room)
+
+
+def to_version_2(map, room=MOST_MAP):
+    """A map of either version as one of version 2, with flags 0 if it has none. Refused: 2, 3, 11."""
+    return _converted(_LIBRARY.couplingnut_to_version_2, map, room)
 
 
 def banks(map):

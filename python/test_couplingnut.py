@@ -35,6 +35,31 @@ class Couplingnut(unittest.TestCase):
         self.assert_refused(2, cn.map_test, MAP + b'\0')
         self.assert_refused(3, cn.map_test, MAP[:5] + b'\1' + MAP[6:])
 
+    def test_convert(self):
+        """a map in the other version, and back"""
+        flagged = cn.to_version_2(MAP)
+        self.assertEqual(flagged, b'\x00\x34\x02' + MAP[3:5] + b'\x00' + MAP[5:])
+        self.assertEqual(cn.to_version_1(flagged), MAP)
+        self.assertEqual((cn.to_version_1(MAP), cn.to_version_2(flagged)), (MAP, flagged))
+        marked = flagged[:5] + b'\x01' + flagged[6:]
+        self.assertEqual(cn.to_version_2(marked), marked)
+        self.assert_refused(13, cn.to_version_1, marked, room=0)
+        self.assert_refused(11, cn.to_version_2, MAP, room=53)
+        self.assertEqual(cn.to_version_2(MAP, room=54), flagged)
+        for call in (cn.to_version_1, cn.to_version_2):
+            self.assert_refused(2, call, flagged[:5] + b'\x02' + flagged[6:])
+            self.assert_refused(2, call, MAP[:-1])
+            self.assert_refused(3, call, MAP[:5] + b'\1' + MAP[6:])
+
+    def test_either_version(self):
+        """opening and reading go alike with either version"""
+        left = []
+        for map in (MAP, cn.to_version_2(MAP)):
+            active, buffer = cn.banks(map)
+            session = cn.open(map, active, buffer)
+            left.append((cn.read(map, session, active, buffer, SCRATCH_WRITE), active, buffer))
+        self.assertEqual(left[0], left[1])
+
     def test_open(self):
         """opening"""
         session, active, buffer = opened()
@@ -155,7 +180,7 @@ class Couplingnut(unittest.TestCase):
 
     def test_message(self):
         """each number has words of its own"""
-        self.assertEqual(len({cn.message(number) for number in range(13)}), 13)
+        self.assertEqual(len({cn.message(number) for number in range(14)}), 14)
 
 
 class Lines(unittest.TextTestResult):

@@ -1,7 +1,7 @@
 //! What is read, sent and tested: maps and recordings, the same in every run.
 
 use couplingnut_tests::chip::{sent, Chip};
-use couplingnut_tests::generate::maps::good_map;
+use couplingnut_tests::generate::maps::{good_entries, map_of};
 use couplingnut_tests::generate::random::Random;
 use couplingnut_tests::second::sender::Order;
 
@@ -11,7 +11,7 @@ const CSB: u8 = 1;
 const FIRST_START: usize = 0x0020;
 
 pub fn map(count: usize) -> Vec<u8> {
-    good_map(&mut Random::new(count as u64), count)
+    map_of(&good_entries(&mut Random::new(count as u64), count))
 }
 
 /// A bus master: it knows the settings that it has set, as an order names them.

@@ -13,7 +13,8 @@ struct Book<'a> {
 
 impl Book<'_> {
     fn entry(&self, address: usize) -> Option<&[u8]> {
-        self.map.get(entry_at(address)..entry_at(address) + 3)
+        let at = entry_at(self.map, address);
+        self.map.get(at..at + 3)
     }
 
     fn write(&mut self, address: usize, v: u8) {
@@ -34,7 +35,7 @@ impl Book<'_> {
 
     fn reset(&mut self) {
         for address in 0..self.active.len() {
-            let default = self.map[entry_at(address) + 2];
+            let default = self.map[entry_at(self.map, address) + 2];
             self.active[address] = default;
             self.buffer[address] = default;
         }
@@ -42,7 +43,7 @@ impl Book<'_> {
 
     fn transfer(&mut self) {
         for address in 0..self.active.len() {
-            if self.map[entry_at(address)] == 3 {
+            if self.map[entry_at(self.map, address)] == 3 {
                 self.active[address] = self.buffer[address];
             }
         }

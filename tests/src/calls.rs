@@ -5,6 +5,7 @@ use std::fs::{self, File};
 use std::os::unix::fs::FileExt;
 
 use crate::environment::{differ, difference_path};
+use crate::generate::maps::count_of;
 use crate::guarded::{Against, Guarded};
 use crate::layout::{from_bytes, to_bytes, SessionBytes, SESSION_SIZE};
 use crate::library::{self, Lent};
@@ -59,7 +60,7 @@ pub struct Left {
 impl Given {
     /// A call that nothing refuses: a good map after opening, and no samples.
     pub fn opened(map: &[u8]) -> Self {
-        let count = (map.len() - 5) / 3;
+        let count = count_of(map);
         let mut given = Given {
             map: map.to_vec(),
             session: [0; SESSION_SIZE],

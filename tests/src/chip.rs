@@ -3,6 +3,7 @@
 
 use crate::both::{open, read, send};
 use crate::calls::Given;
+use crate::generate::maps::count_of;
 use crate::layout::to_bytes;
 use crate::second::reader::RECORD;
 use crate::second::sender::Order;
@@ -25,7 +26,7 @@ pub struct Chip {
 impl Chip {
     /// The chip after opening. The map has to be a good one.
     pub fn opened(map: &[u8]) -> Self {
-        let count = (map.len() - 5) / 3;
+        let count = count_of(map);
         let (mut active, mut buffer) = (vec![0; count], vec![0; count]);
         let (number, session) = open(map, &mut active, &mut buffer);
         assert_eq!(number, 0, "the map of a chip is good");

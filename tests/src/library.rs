@@ -2,7 +2,9 @@
 
 #![allow(unsafe_code)]
 
-pub use calls::{map_test, next_record, open, read, send_into};
+pub use calls::{
+    map_test, next_record, open, read, send_into, to_version_1_into, to_version_2_into,
+};
 
 use crate::layout::SessionBytes;
 use crate::second::sender::Order;
@@ -90,6 +92,20 @@ mod calls {
             out_length: usize,
             samples: *mut u64,
         ) -> u32;
+        fn couplingnut_to_version_1(
+            map: *const u8,
+            map_length: usize,
+            out: *mut u8,
+            out_length: usize,
+            length: *mut u64,
+        ) -> u32;
+        fn couplingnut_to_version_2(
+            map: *const u8,
+            map_length: usize,
+            out: *mut u8,
+            out_length: usize,
+            length: *mut u64,
+        ) -> u32;
     }
 
     pub fn map_test(map: &[u8]) -> u32 {
@@ -172,6 +188,24 @@ mod calls {
             )
         }
     }
+
+    /// The number; the length of the map made is left in its place.
+    pub fn to_version_1_into(map: &[u8], out: &mut [u8], length: &mut u64) -> u32 {
+        let (map_length, out_length) = (map.len(), out.len());
+        // SAFETY: as in `open`.
+        unsafe {
+            couplingnut_to_version_1(map.as_ptr(), map_length, out.as_mut_ptr(), out_length, length)
+        }
+    }
+
+    /// As `to_version_1_into`.
+    pub fn to_version_2_into(map: &[u8], out: &mut [u8], length: &mut u64) -> u32 {
+        let (map_length, out_length) = (map.len(), out.len());
+        // SAFETY: as in `open`.
+        unsafe {
+            couplingnut_to_version_2(map.as_ptr(), map_length, out.as_mut_ptr(), out_length, length)
+        }
+    }
 }
 
 /// Stands in where the library is missing: each call then fails and says so.
@@ -197,6 +231,14 @@ mod calls {
     }
 
     pub fn send_into(_: &Order, _: &mut [u8], _: &mut u64) -> u32 {
+        missing()
+    }
+
+    pub fn to_version_1_into(_: &[u8], _: &mut [u8], _: &mut u64) -> u32 {
+        missing()
+    }
+
+    pub fn to_version_2_into(_: &[u8], _: &mut [u8], _: &mut u64) -> u32 {
         missing()
     }
 

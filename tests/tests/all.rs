@@ -4,6 +4,7 @@ mod audit;
 mod bench_tools;
 mod busread;
 mod calls;
+mod converter;
 mod generator;
 mod guarded;
 mod host;

@@ -239,6 +239,37 @@ fn mkmap_by_itself_has_the_rules_of_the_map_test() {
 }
 
 #[test]
+fn mkmap_makes_version_2_and_goes_back() {
+    if !found("python3", "mkmap_makes_version_2_and_goes_back") {
+        return;
+    }
+    let table = fs::read(example("scratch.txt")).unwrap();
+    let map = fs::read(example("scratch.map")).unwrap();
+    for flags in [0, 1] {
+        let made = mkmap_alone(&["--flags", &flags.to_string()], &table);
+        let mut expected = vec![0x00, 0x34, 2, 0, 16, flags];
+        expected.extend(&map[5..]);
+        assert_eq!(made.output, expected, "{}", made.words);
+        let back = mkmap_alone(&["--back"], &made.output);
+        let text = String::from_utf8(back.output).unwrap();
+        assert!(text.starts_with(&format!("# version 2, flags 0{flags}\n")), "{text}");
+        assert_eq!(mkmap_alone(&[], text.as_bytes()).output, map);
+        for at in [1, 2, 4, 5] {
+            let mut damaged = made.output.clone();
+            damaged[at] += 2;
+            assert_eq!(mkmap_alone(&["--back"], &damaged).status.code(), Some(1), "byte {at}");
+        }
+    }
+    let reserved = mkmap_alone(&["--flags", "2"], &table);
+    assert!(reserved.status.code() == Some(1) && reserved.output.is_empty());
+    assert!(reserved.words.contains("the flags are 02"), "{}", reserved.words);
+    assert_eq!(mkmap_alone(&["--no-test", "--flags", "2"], &table).output[5], 2);
+    for words in [["--flags", "100"], ["--flags", "red"]] {
+        assert_eq!(mkmap_alone(&words, &table).status.code(), Some(2), "{words:?}");
+    }
+}
+
+#[test]
 fn mkmap_asks_the_map_test() {
     if !found("python3", "mkmap_asks_the_map_test") {
         return;

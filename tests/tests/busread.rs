@@ -247,7 +247,7 @@ fn refuses_an_input_that_ends_inside_the_map() {
     let mut random = Random::new(2);
     for count in [16, 17, 300] {
         let map = good_map(&mut random, count);
-        let ends = (0..5).chain([map.len() / 2, map.len() - 3, map.len() - 1]);
+        let ends = (0..7).chain([map.len() / 2, map.len() - 3, map.len() - 1]);
         for end in ends {
             let ended = output_of(&mut busread(), &map[..end], Feed::Pipe);
             assert_eq!(ended.output, b"refused 2\n", "{end} of {} bytes", map.len());

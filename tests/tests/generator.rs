@@ -16,7 +16,7 @@ fn reports() -> impl Iterator<Item = (usize, String)> {
         let input = generate::input(seed);
         let count = input.get(3..5).map_or(0, |n| usize::from(u16::from_be_bytes([n[0], n[1]])));
         let text = String::from_utf8(report(&input)).expect("a report is ASCII");
-        (input.len().saturating_sub(entry_at(count)), text)
+        (input.len().saturating_sub(entry_at(&input, count)), text)
     })
 }
 
@@ -89,6 +89,25 @@ fn halves_of_0x0000_that_disagree_are_reached() {
         readings.extend(nothing.map(|line| line[10..12].to_string()));
     }
     assert_eq!(readings.len(), 8, "{readings:?}");
+}
+
+/// Version 1, and version 2 without and with its flag, all read to the end; and
+/// flags that are reserved.
+#[test]
+fn maps_of_both_versions_are_reached() {
+    let mut read = BTreeSet::new();
+    let mut reserved = 0;
+    for seed in 0..INPUTS {
+        let input = generate::input(seed);
+        let &[_, _, version, _, _, fifth, ..] = &input[..] else { continue };
+        let text = String::from_utf8(report(&input)).expect("a report is ASCII");
+        if text.contains("records") {
+            read.insert((version, if version == 2 { fifth } else { 0 }));
+        }
+        reserved += usize::from(version == 2 && fifth > 1 && text == "refused 2\n");
+    }
+    assert_eq!(read, [(1, 0), (2, 0), (2, 1)].into());
+    assert!(reserved >= 5, "{reserved} of {INPUTS} inputs have a reserved flag");
 }
 
 /// Settings are seen by the control readings: each alone, and several at once.

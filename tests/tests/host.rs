@@ -3,7 +3,7 @@
 //! in memory beside inaccessible pages.
 
 use couplingnut_tests::environment::{differ, number_from};
-use couplingnut_tests::generate::maps::{count, good_map, simple_map, Damage};
+use couplingnut_tests::generate::maps::{count, good_map, simple_map, with_flags, Damage};
 use couplingnut_tests::generate::random::Random;
 use couplingnut_tests::guarded::{Against, Guarded};
 use couplingnut_tests::library;
@@ -166,19 +166,23 @@ fn any_map(random: &mut Random) -> Vec<u8> {
 #[test]
 fn the_map_test_looks_at_every_byte_and_length() {
     let (mut given, mut memory) = (Given::default(), map_memory());
-    let map = simple_map(18);
-    for length in 0..map.len() {
-        compare_map(0, &map[..length], &mut memory, &mut given);
-    }
-    for at in 0..map.len() {
-        for value in 0..=255 {
-            let mut changed = map.clone();
-            changed[at] = value;
-            compare_map(0, &changed, &mut memory, &mut given);
+    let old = simple_map(18);
+    for map in [with_flags(&old, 0), with_flags(&old, 1), old] {
+        for length in 0..map.len() {
+            compare_map(0, &map[..length], &mut memory, &mut given);
+        }
+        for at in 0..map.len() {
+            for value in 0..=255 {
+                let mut changed = map.clone();
+                changed[at] = value;
+                compare_map(0, &changed, &mut memory, &mut given);
+            }
         }
     }
     for count in [15, 16, 17, 8_191, 8_192, 8_193] {
-        compare_map(0, &simple_map(count), &mut memory, &mut given);
+        let old = simple_map(count);
+        compare_map(0, &with_flags(&old, 0), &mut memory, &mut given);
+        compare_map(0, &old, &mut memory, &mut given);
     }
     given.assert_each(&[0, 2, 3], 50);
 }

@@ -3,7 +3,9 @@
 
 use couplingnut_tests::both::{map_test, send};
 use couplingnut_tests::chip::{sent, Chip};
-use couplingnut_tests::generate::maps::{map_of, set_entry, simple_map};
+use couplingnut_tests::generate::maps::{
+    flagged_map_of, map_of, set_entry, simple_map, with_flags,
+};
 use couplingnut_tests::program::{busread, output_of, Feed};
 use couplingnut_tests::second::report::report;
 use couplingnut_tests::second::sender::Order;
@@ -62,11 +64,40 @@ fn smallest_and_largest_map() {
     assert_text(&largest, &[], "map 8192\nrecords 0 samples 0 slow 0\n");
 }
 
+/// The same in version 2 (Ask 3 of document 02), a byte longer.
+#[test]
+fn smallest_and_largest_map_with_a_flag_byte() {
+    for flags in [0, 1] {
+        let smallest = with_flags(&simple_map(16), flags);
+        assert_eq!(smallest[..6], [0x00, 0x34, 0x02, 0x00, 0x10, flags]);
+        assert_eq!((smallest.len(), map_test(&smallest)), (54, 0));
+        assert_text(&smallest, &[], "map 16\nrecords 0 samples 0 slow 0\n");
+
+        let largest = with_flags(&simple_map(8_192), flags);
+        assert_eq!(largest[..6], [0x60, 0x04, 0x02, 0x20, 0x00, flags]);
+        assert_eq!((largest.len(), map_test(&largest)), (24_582, 0));
+        assert_text(&largest, &[], "map 8192\nrecords 0 samples 0 slow 0\n");
+    }
+}
+
+/// The printed case with a map of version 2: the flag does nothing yet, and a
+/// reserved one is refused.
+#[test]
+fn the_printed_case_with_a_flag_byte() {
+    let samples = write_of(0x000A, &[0x3C]);
+    let printed = "map 16\nW 000A 3C 3C 1 3C\nrecords 1 samples 51 slow 0\n";
+    for (flags, text) in [(0, printed), (1, printed), (2, "refused 2\n"), (0x81, "refused 2\n")] {
+        assert_text(&with_flags(&simple_map(16), flags), &samples, text);
+    }
+}
+
 #[test]
 fn fifteen_registers_and_8_193_are_refused() {
     let entries = simple_map(16)[5..50].as_chunks().0.to_vec();
     assert_eq!(entries.len(), 15);
-    for map in [map_of(&entries), simple_map(8_193)] {
+    let too_many = simple_map(8_193);
+    let flagged = [flagged_map_of(0, &entries), with_flags(&too_many, 0)];
+    for map in flagged.into_iter().chain([map_of(&entries), too_many]) {
         assert_eq!(map_test(&map), 2);
         assert_text(&map, &[], "refused 2\n");
     }

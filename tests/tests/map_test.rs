@@ -1,7 +1,9 @@
 //! The map test, by both sides: numbers 2 and 3.
 
 use couplingnut_tests::both::map_test;
-use couplingnut_tests::generate::maps::{count, entry_at, good_map, set_entry, simple_map, Damage};
+use couplingnut_tests::generate::maps::{
+    count, entry_at, good_map, set_entry, simple_map, with_flags, Damage,
+};
 use couplingnut_tests::generate::random::Random;
 
 #[test]
@@ -41,23 +43,89 @@ fn a_broken_header_comes_before_a_broken_entry() {
     }
 }
 
+/// The simple map in both versions, and with the flag.
+fn simple_maps(count: usize) -> [Vec<u8>; 3] {
+    let map = simple_map(count);
+    [with_flags(&map, 0), with_flags(&map, 1), map]
+}
+
 #[test]
 fn every_other_length_is_refused() {
-    let map = simple_map(18);
-    for length in 0..map.len() {
-        assert_eq!(map_test(&map[..length]), 2, "{length} bytes");
-    }
-    for more in 1..=6 {
-        assert_eq!(map_test(&[&map[..], &vec![2; more]].concat()), 2, "{more} bytes too many");
+    for map in simple_maps(18) {
+        assert_eq!(map_test(&map), 0);
+        for length in 0..map.len() {
+            assert_eq!(map_test(&map[..length]), 2, "{length} bytes");
+        }
+        for more in 1..=6 {
+            assert_eq!(map_test(&[&map[..], &vec![2; more]].concat()), 2, "{more} bytes too many");
+        }
     }
 }
 
-/// Whether this value may stand there while all else is as in the simple map.
-fn may_stand(at: usize, value: u8, present: u8) -> bool {
-    if value == present {
-        return true;
+/// All numbers of two bytes as length and as n: only their own are taken.
+#[test]
+fn every_other_length_field_and_count_is_refused() {
+    for map in simple_maps(18) {
+        for (at, number) in [0, 3].into_iter().flat_map(|at| (0..=0xFFFF_u16).map(move |n| (at, n)))
+        {
+            let mut changed = map.clone();
+            changed[at..at + 2].copy_from_slice(&number.to_be_bytes());
+            let expected = if changed == map { 0 } else { 2 };
+            assert_eq!(map_test(&changed), expected, "{number} at byte {at}");
+        }
     }
-    let Some(entry) = at.checked_sub(entry_at(0)) else { return false };
+}
+
+/// Ask 3 of document 02: bit 0 is a flag, the other bits are reserved. That is
+/// number 2, and so comes before what is wrong with an entry.
+#[test]
+fn every_flag_byte_has_its_number() {
+    let good = simple_map(16);
+    let mut bad = good.clone();
+    set_entry(&mut bad, 0x000D, [1, 0, 0x05]);
+    for flags in 0..=255 {
+        let reserved = flags > 1;
+        assert_eq!(map_test(&with_flags(&good, flags)), if reserved { 2 } else { 0 });
+        assert_eq!(map_test(&with_flags(&bad, flags)), if reserved { 2 } else { 3 });
+    }
+}
+
+/// Each version has its own length, and its own bytes before the entries.
+#[test]
+fn every_version_byte_has_its_form() {
+    for (map, own) in [(simple_map(16), 1), (with_flags(&simple_map(16), 0), 2)] {
+        for (version, length) in (0..=255).flat_map(|version| [51, 52].map(|l| (version, l))) {
+            let mut changed = map.clone();
+            changed[1] = length;
+            changed[2] = version;
+            let expected = if version == own && length == 50 + own { 0 } else { 2 };
+            assert_eq!(map_test(&changed), expected, "version {version}, length {length}");
+        }
+    }
+}
+
+/// A header of version 2 that ends before its flag byte.
+#[test]
+fn five_bytes_of_version_2_are_refused() {
+    assert_eq!(map_test(&[0x00, 0x03, 0x02, 0x00, 0x00]), 2);
+    assert_eq!(map_test(&[0x00, 0x34, 0x02, 0x00, 0x10]), 2);
+    assert_eq!(map_test(&[0x00, 0x04, 0x02, 0x00, 0x00, 0x00]), 2);
+}
+
+/// The number of a map like this one with this value there.
+fn number_with(map: &[u8], at: usize, value: u8) -> u8 {
+    match at.checked_sub(entry_at(map, 0)) {
+        _ if value == map[at] => 0,
+        Some(entry) if may_stand(entry, value) => 0,
+        Some(_) => 3,
+        None if at == 5 && value <= 1 => 0,
+        None => 2,
+    }
+}
+
+/// Whether another value than the present one may stand at this byte of the
+/// entries while all else is as in the simple map.
+fn may_stand(entry: usize, value: u8) -> bool {
     match (entry / 3, entry % 3) {
         // The simple map's product number is 0x0101: one byte can't spoil it.
         (0x0003..=0x0006 | 0x000A | 0x000B, 2) => true,
@@ -70,13 +138,14 @@ fn may_stand(at: usize, value: u8, present: u8) -> bool {
 
 #[test]
 fn every_byte_of_a_map_is_looked_at() {
-    let map = simple_map(18);
-    for at in 0..map.len() {
-        for value in 0..=255 {
-            let mut changed = map.clone();
-            changed[at] = value;
-            let passes = map_test(&changed) == 0;
-            assert_eq!(passes, may_stand(at, value, map[at]), "byte {at} is {value:#04X}");
+    for map in simple_maps(18) {
+        for at in 0..map.len() {
+            for value in 0..=255 {
+                let mut changed = map.clone();
+                changed[at] = value;
+                let expected = number_with(&map, at, value);
+                assert_eq!(map_test(&changed), expected, "byte {at} is {value:#04X}");
+            }
         }
     }
 }

@@ -3,7 +3,9 @@
 
 use couplingnut_tests::both::open;
 use couplingnut_tests::chip::{sent, Chip};
-use couplingnut_tests::generate::maps::{self, good_map, set_entry, simple_map};
+use couplingnut_tests::generate::maps::{
+    self, good_map, map_of, set_entry, simple_map, with_flags,
+};
 use couplingnut_tests::generate::random::Random;
 use couplingnut_tests::generate::sessions::{sound_session, unsound_sessions, USABLE};
 use couplingnut_tests::generate::traces::trace;
@@ -44,7 +46,7 @@ fn the_lowest_number_that_applies_is_given() {
             chip.session.bits = 1;
         }
         if breaks(2) {
-            chip.map[2] = 2;
+            chip.map[2] = 3;
         }
         if breaks(3) {
             set_entry(&mut chip.map, 0x000A, [2, 0x00, 0x00]);
@@ -195,9 +197,29 @@ fn opening_puts_each_default_in_both_banks() {
         let map = good_map(&mut random, count);
         let (mut active, mut buffer) = (random.bytes(count), random.bytes(count));
         assert_eq!(open(&map, &mut active, &mut buffer), (0, Session::opened()));
-        let defaults: Vec<u8> = (0..count).map(|i| map[maps::entry_at(i) + 2]).collect();
+        let defaults: Vec<u8> = (0..count).map(|i| map[maps::entry_at(&map, i) + 2]).collect();
         assert_eq!(active, defaults);
         assert_eq!(buffer, defaults);
+    }
+}
+
+/// Ask 3 of document 02: the same entries are the same registers, and the flag
+/// does nothing yet.
+#[test]
+fn both_versions_are_read_as_the_same_map() {
+    let mut random = Random::new(10);
+    for _ in 0..500 {
+        let count = random.between(16, 80);
+        let map = map_of(&maps::good_entries(&mut random, count));
+        let length = random.below(2_000);
+        let samples = trace(&mut random, &map, length, true);
+        let mut old = Chip::opened(&map);
+        let lines = old.read(&samples);
+        for flags in [0, 1] {
+            let mut new = Chip::opened(&with_flags(&map, flags));
+            assert_eq!(new.read(&samples), lines);
+            assert_eq!(Chip { map: map.clone(), ..new }, old);
+        }
     }
 }
 

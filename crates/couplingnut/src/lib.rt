@@ -2,10 +2,13 @@
 // `sessionbytes` puts together and takes apart.
 ghost use mathlib.Core.Path.{_≡_};
 ghost use Rattle.maptest.specs.MapTest.{mapNumber};
+ghost use Rattle.convert.specs.Convert.{converting, convertOf};
 ghost use Rattle.registers.specs.Banks.{banks};
 ghost use Rattle.order.specs.Order.{order};
 ghost use Rattle.sender.specs.Calls.{sending, sendOf};
 ghost use Rattle.couplingnut.specs.Calls.{opening, openOf, outcome, readOf, next, nextOf};
+use convert::to_version_1;
+use convert::to_version_2;
 use maptest::map_test;
 use nextrecord::next_record;
 use reader::open;
@@ -22,6 +25,27 @@ pub extern "C" fn couplingnut_map_test(map: &[u8]) -> u32
     ensures { λ r. ⌜ r ≡ mapNumber (now (map .entry)) ⌝ }
 {
     map_test(map) as u32
+}
+
+// Puts a map, as one of version 1, at the start of the outgoing buffer, and says how many bytes it is. A refusal, 2, 3, 13 or 11, says
+// 0 bytes and leaves the buffer as it was.
+#[no_mangle]
+pub extern "C" fn couplingnut_to_version_1(map: &[u8], out: &mut [u8], length: &mut u64) -> u32
+    ensures { λ r. ⌜ converting r (now (length .exit)) (now (out .exit)) ≡ convertOf 1 (now (map .entry)) (now (out .entry)) ⌝ }
+{
+    let made = to_version_1(map, out);
+    *length = made.length as u64;
+    made.number as u32
+}
+
+// The same as one of version 2, with flags 0 if the map had none. A refusal is 2, 3 or 11.
+#[no_mangle]
+pub extern "C" fn couplingnut_to_version_2(map: &[u8], out: &mut [u8], length: &mut u64) -> u32
+    ensures { λ r. ⌜ converting r (now (length .exit)) (now (out .exit)) ≡ convertOf 2 (now (map .entry)) (now (out .entry)) ⌝ }
+{
+    let flagged = to_version_2(map, out);
+    *length = flagged.length as u64;
+    flagged.number as u32
 }
 
 // Puts each default in both banks. The opened session is handed back always; a refusal, 2 to 4, leaves the banks as they were.

@@ -10,7 +10,8 @@ use Rattle.bits.specs.Bytes.{byteAt}
 use Rattle.bits.specs.Tests.{every}
 use Rattle.bits.proofs.Cases.{yes}
 use Rattle.regmap.specs.declared.Entry.{Entry}
-use Rattle.regmap.specs.Format.{entryStart, countOf, entryAt, registerAt}
+use Rattle.regmap.specs.Format.{entryStart, countOf, headOf, entryAt, registerAt}
+use Rattle.regmap.proofs.Laws.{head-bounds}
 use Rattle.maptest.specs.MapTest.{formTests, kindRule, placeRule, entryGood, entriesGood, furtherTests, mapNumber}
 use Rattle.maptest.proofs.Entries.{three-parts}
 use Rattle.maptest.proofs.PlaceKinds.{free-place}
@@ -42,9 +43,9 @@ module _ (xs : List ℕ) (n : ℕ) (head : length xs ≡ 53) where
       go : (b : Bool) → cond b (record { kind = byteAt m (entryStart m a); mask = byteAt m (entryStart m a + 1); default = byteAt m (entryStart m a + 2) }) blankEntry ≡ blankEntry
       go true =
           rw (
-            behind xs n (entryStart m a) 0 (omega arith),
-            behind xs n (entryStart m a + 1) 0 (omega arith),
-            behind xs n (entryStart m a + 2) 0 (omega arith),
+            behind xs n (entryStart m a) 0 (omega (arith, head-bounds m)),
+            behind xs n (entryStart m a + 1) 0 (omega (arith, head-bounds m)),
+            behind xs n (entryStart m a + 2) 0 (omega (arith, head-bounds m)),
           )
       go false = refl
 
@@ -54,7 +55,7 @@ module _ (xs : List ℕ) (n : ℕ) (head : length xs ≡ 53) where
   good-from-16 (suc k) a h = rw (blank-from-16 a h, ← free-place a 0 h, good-from-16 k (a + 1) (omega arith))
 
 first-good : true ≡ entriesGood map8192 0 16
-unfolding countOf entryAt kindRule placeRule entryGood entriesGood
+unfolding countOf headOf entryAt kindRule placeRule entryGood entriesGood
 first-good = refl
 
 others-good : true ≡ entriesGood map8192 16 (countOf map8192 - 16)
@@ -62,11 +63,11 @@ unfolding countOf
 others-good = sym (good-from-16 (0x60 ∷ 0x03 ∷ 1 ∷ 0x20 ∷ 0x00 ∷ entries16) (3 * 8176) refl 8176 16 (omega arith))
 
 form-good : every (formTests map8192) ≡ true
-unfolding every countOf
+unfolding every countOf headOf
 form-good = refl
 
 further-good : true ≡ every (furtherTests map8192)
-unfolding every countOf entryAt
+unfolding every countOf headOf entryAt
 further-good = refl
 
 pub good-8192 : mapNumber map8192 ≡ 0

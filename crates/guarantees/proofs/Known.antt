@@ -1,13 +1,15 @@
 -- The starred results: a good map's length follows from its count by the map test, the samples of 1,000 bytes by the sender's law, and the
 -- map of 8,192 registers is good by its blank entries; all the others compute.
-use mathlib.Core.Path.{_≡_, refl, ap, _∙_}
+use mathlib.Core.Path.{_≡_, refl, ap}
 use mathlib.Core.List.{List}
-use Prim.Native.Nat.{ℕ, _+_, _*_}
+use Prim.Native.Nat.{ℕ, _+_, _-_, _*_}
+use native.Mathlib.Omega.{arith}
 use lib.ListN.{length}
 use Rattle.bits.specs.Bits.{bitAt, merged}
 use Rattle.bits.specs.Tests.{every}
 use Rattle.card.specs.Card.{turned, isMirror}
-use Rattle.regmap.specs.Format.{lengthOf, countOf, entryAt}
+use Rattle.regmap.specs.Format.{lengthOf, versionOf, countOf, headSizeIn, headOf, entryAt}
+use Rattle.regmap.proofs.Laws.{head-size-bounds}
 use Rattle.maptest.specs.MapTest.{kindRule, placeRule, entryGood, entriesGood, mapNumber}
 use Rattle.maptest.proofs.Laws.{good-length, good-form}
 use Rattle.settings.specs.Settings.{settingsAfter, controlReading}
@@ -27,18 +29,24 @@ use Rattle.order.proofs.Laws.{length-samples}
 use Rattle.guarantees.specs.Known.{KnownResults, writeThousand}
 use Rattle.guarantees.proofs.Blank.{good-8192}
 
--- the length and the bytes of a good map of n registers
-lengths-of : (n : ℕ) (m : List ℕ) → mapNumber m ≡ 0 → countOf m ≡ n → (lengthOf m ≡ 3 + 3 * n) × (length m ≡ 5 + 3 * n)
-lengths-of n m good e = (good-length m good ∙ ap (λ (k : ℕ). 3 + 3 * k) e, good-form m good ∙ ap (λ (k : ℕ). 5 + 3 * k) e)
+-- the length and the bytes of a good map of n registers in a version
+lengths-of :
+    (version n : ℕ) (m : List ℕ) → mapNumber m ≡ 0 → versionOf m ≡ version → countOf m ≡ n
+    → (lengthOf m ≡ headSizeIn version - 2 + 3 * n) × (length m ≡ headSizeIn version + 3 * n)
+unfolding headOf
+lengths-of version n m good v e =
+    let head : headOf m ≡ headSizeIn version = ap headSizeIn v in
+    (omega (arith, good-length m good, head, e, head-size-bounds version), omega (arith, good-form m good, head, e))
 
 pub known-results : KnownResults
-unfolding bitAt merged every turned isMirror countOf entryAt kindRule placeRule entryGood entriesGood mapNumber
+unfolding bitAt merged every turned isMirror countOf headOf entryAt kindRule placeRule entryGood entriesGood mapNumber
     settingsAfter controlReading withInstructionBit withDataBit stepOf bitEvent abortEvent eventOf
     defaultsFrom defaultBanks transferFrom transferred controlEffect effectOf applied writeBanks writtenBy dueByte recordOf banksAfter runOf recordsOf
     runFrom highFirst lowFirst bitsOf byteBits runBits orderBits clocked samplesOf allSamples configuresEarly sendNumber
 known-results = record {
-  maps-16 = record { good = refl; registers = refl; lengths = lengths-of 16 };
-  maps-8192 = record { good = good-8192; registers = refl; lengths = lengths-of 8192 };
+  maps-16 = record { good = refl; in-version = refl; registers = refl; lengths = lengths-of 1 16 };
+  maps-8192 = record { good = good-8192; in-version = refl; registers = refl; lengths = lengths-of 1 8192 };
+  maps-16-flags = record { good = refl; in-version = refl; registers = refl; lengths = lengths-of 2 16 };
   good-17 = (refl, refl);
   merge = refl;
   bits-high = refl;

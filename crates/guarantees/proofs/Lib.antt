@@ -13,4 +13,5 @@ pub mod Orders
 pub mod Pieces
 pub mod ReadBack
 pub mod Runs
+pub mod SameMap
 pub mod StoppedRun

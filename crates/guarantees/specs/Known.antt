@@ -5,7 +5,7 @@ use mathlib.Core.Bool.{Bool, true, false}
 use mathlib.Core.List.{List, [], _∷_, _++_}
 use lib.ListN.{length, replicate, getD}
 use Rattle.bits.specs.Bits.{merged}
-use Rattle.regmap.specs.Format.{lengthOf, countOf}
+use Rattle.regmap.specs.Format.{lengthOf, versionOf, countOf}
 use Rattle.maptest.specs.MapTest.{mapNumber}
 use Rattle.settings.specs.Settings.{nextAddress}
 use Rattle.session.specs.declared.Session.{Session}
@@ -27,7 +27,11 @@ entries16 =
 abbrev pub map16 : List ℕ
 map16 = 0x00 ∷ 0x33 ∷ 1 ∷ 0 ∷ 16 ∷ entries16
 
--- the same with a buffered register at 0x0010, mask 0xFF, default 0x11
+-- the same in version 2, flags 0
+abbrev pub map16Flags : List ℕ
+map16Flags = 0x00 ∷ 0x34 ∷ 2 ∷ 0 ∷ 16 ∷ 0 ∷ entries16
+
+-- the first with a buffered register at 0x0010, mask 0xFF, default 0x11
 abbrev pub map17 : List ℕ
 map17 = 0x00 ∷ 0x36 ∷ 1 ∷ 0 ∷ 17 ∷ (entries16 ++ (3 ∷ 0xFF ∷ 0x11 ∷ []))
 
@@ -64,11 +68,12 @@ bitsOfDigits [] = []
 bitsOfDigits (zero ∷ ds) = false ∷ bitsOfDigits ds
 bitsOfDigits (suc d ∷ ds) = true ∷ bitsOfDigits ds
 
--- There is a good map of n registers, and every one states this length and has so many bytes.
-pub record GoodMaps (example : List ℕ) (n stated bytes : ℕ) : Type 0 where
+-- There is a good map of n registers in a version, and every one states this length and has so many bytes.
+pub record GoodMaps (example : List ℕ) (version n stated bytes : ℕ) : Type 0 where
   pub good : mapNumber example ≡ 0
+  pub in-version : versionOf example ≡ version
   pub registers : countOf example ≡ n
-  pub lengths : (m : List ℕ) → mapNumber m ≡ 0 → countOf m ≡ n → (lengthOf m ≡ stated) × (length m ≡ bytes)
+  pub lengths : (m : List ℕ) → mapNumber m ≡ 0 → versionOf m ≡ version → countOf m ≡ n → (lengthOf m ≡ stated) × (length m ≡ bytes)
 
 -- The sender takes the order with room for so many samples, and the order has just as many.
 pub record Sends (o : Order) (samples : ℕ) : Type 0 where
@@ -77,8 +82,10 @@ pub record Sends (o : Order) (samples : ℕ) : Type 0 where
 
 pub record KnownResults : Type 0 where
   -- n = 16: length 0x0033, 53 bytes; n = 8,192: length 0x6003
-  pub maps-16 : GoodMaps map16 16 0x0033 53
-  pub maps-8192 : GoodMaps map8192 8192 0x6003 24581
+  pub maps-16 : GoodMaps map16 1 16 0x0033 53
+  pub maps-8192 : GoodMaps map8192 1 8192 0x6003 24581
+  -- document 02, Ask 3: in version 2 length 0x0034, 54 bytes
+  pub maps-16-flags : GoodMaps map16Flags 2 16 0x0034 54
   pub good-17 : (mapNumber map17 ≡ 0) × (countOf map17 ≡ 17)
   -- byte 0xA5, mask 0x0F, write 0x3C: 0xAC
   pub merge : merged 8 0xA5 0x3C 0x0F ≡ 0xAC

@@ -5,4 +5,5 @@ pub mod Counts
 pub mod InForce
 pub mod Known
 pub mod ReadBack
+pub mod SameMap
 pub mod StoppedRun

@@ -2,7 +2,7 @@
 use mathlib.Core.Path.{_≡_, refl, _∙_}
 use mathlib.Core.Bool.{Bool, true, false, _&&_, _||_}
 use mathlib.Core.List.{List}
-use Prim.Native.Nat.{ℕ, _+_, _-_, _*_, _≤_, _<_}
+use Prim.Native.Nat.{ℕ, zero, suc, _+_, _≤_, _<_}
 use native.Mathlib.Nat.{zero-add}
 use native.Mathlib.Omega.{arith}
 use borrow.Author.Tests.{leb-true, eqb-true}
@@ -10,7 +10,7 @@ use lib.ListN.{length}
 use lib.Dec.{eqb}
 use Rattle.bits.specs.Tests.{every, unless}
 use Rattle.bits.proofs.Cases.{each, and-left, and-right, every-true}
-use Rattle.regmap.specs.Format.{lengthOf, countOf, leastCount, mostCount, lengthSize, entrySize, headOf, sizeOf, registerAt, control}
+use Rattle.regmap.specs.Format.{lengthOf, versionOf, countOf, leastCount, mostCount, lengthSize, sizeOf, registerAt, SameRegisters, control}
 use Rattle.maptest.specs.MapTest.{formTests, Formed, kindRule, places, placeRule, entryGood, entriesGood, furtherTests, mapNumber}
 use Rattle.maptest.proofs.Entries.{entries-each}
 use Rattle.maptest.proofs.PlaceKinds.{placed-control}
@@ -46,10 +46,13 @@ module _ (m : List ℕ) (good : mapNumber m ≡ 0) where
   pub good-form : length m ≡ sizeOf m
   good-form = formed m (passed .0) .whole
 
-  pub good-length : lengthOf m ≡ headOf m - lengthSize + entrySize * countOf m
-  good-length = omega (arith, eqb-true (lengthSize + lengthOf m) (sizeOf m) (every-true (formTests m) (passed .0) .1 .0))
+  pub good-length : lengthSize + lengthOf m ≡ sizeOf m
+  good-length = eqb-true (lengthSize + lengthOf m) (sizeOf m) (every-true (formTests m) (passed .0) .1 .0)
 
-  good-count : (leastCount ≤ countOf m) × (countOf m ≤ mostCount)
+  pub good-version : (eqb (versionOf m) 1 || eqb (versionOf m) 2) ≡ true
+  good-version = every-true (formTests m) (passed .0) .1 .1 .0
+
+  pub good-count : (leastCount ≤ countOf m) × (countOf m ≤ mostCount)
   good-count = let f = formed m (passed .0) in (f .least, f .most)
 
   -- each entry of a good map is good
@@ -71,3 +74,26 @@ module _ (m : List ℕ) (good : mapNumber m ≡ 0) where
 
   pub control-15 : registerAt m 0x000F .kind ≡ control
   control-15 = control-at 0x000F (omega arith) refl
+
+-- the rules go by the registers alone, so of two maps with the same registers, both of good form, both are good or none
+module _ (m m′ : List ℕ) (s : SameRegisters m m′) where
+  entries-same : (a k : ℕ) → entriesGood m a k ≡ entriesGood m′ a k
+  unfolding entriesGood
+  entries-same a zero = refl
+  entries-same a (suc k) = rw (s .same-entry a, entries-same (a + 1) k)
+
+  pub good-alike : mapNumber m ≡ 0 → every (formTests m′) ≡ true → mapNumber m′ ≡ 0
+  unfolding mapNumber
+  good-alike good form =
+      let rules = passed m good .1 in
+      rw (
+        form,
+        ← s .same-entry 0x000C,
+        ← s .same-entry 0x000D,
+        ← s .same-entry 0x0004,
+        ← s .same-entry 0x0005,
+        ← s .same-entry 0x000A,
+        ← entries-same 0 (countOf m′),
+        ← s .same-count,
+        rules,
+      )

@@ -1,24 +1,25 @@
 -- Document 01, "The map" and "Numbers given back": the map test, 0 done, 2 or 3.
 use Prim.Native.Nat.{ℕ, zero, suc, _+_, _*_, _≤_}
 use mathlib.Core.Path.{_≡_}
-use mathlib.Core.Bool.{Bool, true, false, cond, not, _&&_}
+use mathlib.Core.Bool.{Bool, true, false, cond, not, _&&_, _||_}
 use mathlib.Core.List.{List, [], _∷_}
 use lib.ListN.{length, getD}
 use lib.Dec.{eqb, leb}
 use Rattle.bits.specs.Tests.{every, unless}
 use Rattle.regmap.specs.declared.Entry.{Entry}
-use Rattle.regmap.specs.Format.{lengthOf, versionOf, countOf, leastCount, mostCount, lengthSize, headSize, sizeOf}
+use Rattle.regmap.specs.Format.{lengthOf, versionOf, countOf, leastCount, mostCount, lengthSize, headSize, sizeOf, flagsOf}
 use Rattle.regmap.specs.Format.{blank, readOnly, plain, buffered, control, registerAt}
 
--- Number 2: fewer than 5 bytes; length, version or n wrong; or a slice that is not as long as the map.
+-- Number 2: fewer than 5 bytes; length, version or n wrong; a slice that is not as long as the map; or a reserved flag (document 02, Ask 3).
 abbrev pub formTests : List ℕ → List Bool
 formTests m =
     leb headSize (length m)
     ∷ eqb (lengthSize + lengthOf m) (sizeOf m)
-    ∷ eqb (versionOf m) 1
+    ∷ (eqb (versionOf m) 1 || eqb (versionOf m) 2)
     ∷ leb leastCount (countOf m)
     ∷ leb (countOf m) mostCount
     ∷ eqb (length m) (sizeOf m)
+    ∷ leb (flagsOf m) 1
     ∷ []
 
 -- What good form gives: n is 16 to 8,192, and all the entries are there.

@@ -16,6 +16,7 @@ use regmap::BUFFERED;
 use regmap::CONTROL;
 use regmap::ENTRY_SIZE;
 use regmap::Entry;
+use regmap::FLAGGED;
 use regmap::HEAD_SIZE;
 use regmap::LEAST_COUNT;
 use regmap::LENGTH_SIZE;
@@ -23,8 +24,10 @@ use regmap::MOST_COUNT;
 use regmap::PLAIN;
 use regmap::READ_ONLY;
 use regmap::count;
+use regmap::flags;
+use regmap::head;
 
-// Whether the head is right and the slice as long as the map.
+// Whether the head is right, with no reserved flag, and the slice as long as the map.
 fn form_good(map: &[u8]) -> bool
     ensures { λ r. ⌜ r ≡ every (formTests (now (map .entry))) ⌝ }
 {
@@ -32,13 +35,15 @@ fn form_good(map: &[u8]) -> bool
         return false;
     }
     let n = count(map);
-    let size = HEAD_SIZE + ENTRY_SIZE * n;
+    let size = head(map) + ENTRY_SIZE * n;
     let length = map[0] as usize * 256 + map[1] as usize;
+    let version = map[2];
     (LENGTH_SIZE + length == size)
-        & (map[2] == 1)
+        & ((version == 1) | (version == FLAGGED))
         & (LEAST_COUNT <= n)
         & (n <= MOST_COUNT)
         & (map.len() == size)
+        & (flags(map) <= 1)
 }
 
 // The entry of a register that the map has.
@@ -46,7 +51,7 @@ fn register_at(map: &[u8], address: usize) -> Entry
     requires { ⌜ (Formed (now map)) × (address < countOf (now map)) ⌝ }
     ensures { λ r. ⌜ r ≡ registerAt (now (map .entry)) address ⌝ }
 {
-    let at = HEAD_SIZE + ENTRY_SIZE * address;
+    let at = head(map) + ENTRY_SIZE * address;
     Entry {
         kind: map[at],
         mask: map[at + 1],

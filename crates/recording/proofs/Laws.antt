@@ -42,7 +42,7 @@ pub map-end-bounds : (length : ℕ) {end : ℕ} → end ≡ mapEnd length → (2
 unfolding mapEnd
 map-end-bounds length {end} e =
     rw e
-    (each (λ (n : ℕ). (2 ≤ n) × (n < mapSpace)) (leb leastLength length && leb length mostLength && eqb (length % 3) 0)
+    (each (λ (n : ℕ). (2 ≤ n) × (n < mapSpace)) (leb leastLength length && leb length mostLength && leb (length % 3) 1)
     (λ t. omega (arith, leb-true length mostLength (and-right (leb leastLength length) _ (and-left (leb leastLength length && leb length mostLength) _ t))))
     (λ t. omega arith))
 

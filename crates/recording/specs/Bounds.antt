@@ -1,7 +1,7 @@
 -- Bounds of what comes from a file.
 use Prim.Native.Nat.{ℕ, _+_, _%_, _≤_}
 use mathlib.Core.Bool.{cond, _&&_}
-use lib.Dec.{eqb, leb}
+use lib.Dec.{leb}
 use Rattle.recording.specs.declared.input.Filled.{Filled}
 use Rattle.recording.specs.declared.input.Filled.the-variants.{Bytes, Failed}
 use Rattle.recording.specs.Sizes.{leastLength, mostLength}
@@ -11,7 +11,7 @@ abbrev pub Within : Filled → ℕ → Type 0
 Within (Bytes got) most = got ≤ most
 Within Failed most = Unit {0}
 
--- Document 01, "The map": where a map with this length field ends. For one that no map has
--- nothing is taken but the field itself.
+-- Document 01, "The map", and document 02, Ask 3: where a map with this length field ends. The field is 3 + 3n or 4 + 3n, which
+-- never meet. For one that no map has nothing is taken but the field itself.
 unfoldable pub mapEnd : ℕ → ℕ
-mapEnd length = cond (leb leastLength length && leb length mostLength && eqb (length % 3) 0) (2 + length) 2
+mapEnd length = cond (leb leastLength length && leb length mostLength && leb (length % 3) 1) (2 + length) 2

@@ -43,12 +43,12 @@ pub fn fill(file: i32, space: &mut [u8], from: usize, end: usize) -> Filled
     Filled::Bytes(at)
 }
 
-// Where the map that starts with this length field ends.
+// Where the map that starts with this length field ends: the field is 3 + 3n, or 4 + 3n in version 2.
 fn map_end(high: u8, low: u8) -> usize
     ensures { λ r. ⌜ r ≡ mapEnd (high * 256 + low) ⌝ }
 {
     let length = high as usize * 256 + low as usize;
-    if (LEAST_LENGTH <= length) & (length <= MOST_LENGTH) & (length % 3 == 0) {
+    if (LEAST_LENGTH <= length) & (length <= MOST_LENGTH) & (length % 3 <= 1) {
         return 2 + length;
     }
     2

@@ -4,7 +4,7 @@
 // What a file holds is the system's, and no contract can say it. So the promises here are of how a reading ends, of what is told
 // beside it, and that no buffer is left.
 //
-// The buffers, with those of the calls, are at most 64,288 bytes together.
+// The buffers, with those of the calls, are at most 64,289 bytes together.
 ghost use mathlib.Core.Path.{_≡_};
 ghost use Prim.Native.Nat.{_<_, _≤_, min};
 ghost use Rattle.regmap.specs.Format.{countOf, mostCount};

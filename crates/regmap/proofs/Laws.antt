@@ -6,16 +6,24 @@ use Prim.Native.Nat.{ℕ, _+_, _^_, _≤_, _<_}
 use native.Mathlib.Nat.{add-zero}
 use native.Mathlib.Omega.{arith}
 use borrow.Author.Tests.{lt-ltb, le-ltb}
-use lib.Dec.{ltb}
+use lib.Dec.{eqb, ltb}
 use Rattle.bits.specs.Bytes.{byteAt}
 use Rattle.bits.proofs.Cases.{each}
 use Rattle.regmap.specs.declared.Entry.{Entry}
-use Rattle.regmap.specs.Format.{countOf, entryStart, entryAt}
+use Rattle.regmap.specs.Format.{versionOf, countOf, headSizeIn, headOf, entryStart, entryAt}
 
 -- n is two bytes
 pub count-fits : (m : List ℕ) → ((i : ℕ) → byteAt m i < 2 ^ 8) → countOf m < 2 ^ 16
 unfolding countOf
 count-fits m byte = omega (arith, byte 3, byte 4)
+
+-- the head is 5 or 6 bytes
+pub head-size-bounds : (version : ℕ) → (5 ≤ headSizeIn version) × (headSizeIn version ≤ 6)
+head-size-bounds version = each (λ (h : ℕ). (5 ≤ h) × (h ≤ 6)) (eqb version 2) (λ t. (omega arith, omega arith)) (λ t. (omega arith, omega arith))
+
+pub head-bounds : (m : List ℕ) → (5 ≤ headOf m) × (headOf m ≤ 6)
+unfolding headOf
+head-bounds m = head-size-bounds (versionOf m)
 
 -- the parts of the entry that begins at a place: bytes where the map has the entry, else 0
 abbrev parts : Bool → List ℕ → ℕ → Entry

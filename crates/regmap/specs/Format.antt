@@ -1,8 +1,9 @@
 -- Document 01, "The map": where the bytes of a map stand.
 use Prim.Native.Nat.{ℕ, _+_, _*_}
+use mathlib.Core.Path.{_≡_}
 use mathlib.Core.Bool.{cond}
 use mathlib.Core.List.{List}
-use lib.Dec.{ltb}
+use lib.Dec.{eqb, ltb}
 use Rattle.bits.specs.Bytes.{byteAt, wordAt}
 use Rattle.regmap.specs.declared.Entry.{Entry}
 
@@ -32,13 +33,24 @@ lengthSize = 2
 abbrev pub headSize : ℕ
 headSize = 5
 
+-- Document 02, Ask 3: version 2 has one flag byte after n
+abbrev pub flaggedHeadSize : ℕ
+flaggedHeadSize = 6
+
+abbrev pub headSizeIn : ℕ → ℕ
+headSizeIn version = cond (eqb version 2) flaggedHeadSize headSize
+
+-- the flags; version 1 has none
+abbrev pub flagsOf : List ℕ → ℕ
+flagsOf m = cond (eqb (versionOf m) 2) (byteAt m headSize) 0
+
 -- the bytes of an entry: kind, mask and default
 abbrev pub entrySize : ℕ
 entrySize = 3
 
 -- where the entries begin
-abbrev pub headOf : List ℕ → ℕ
-headOf m = headSize
+unfoldable pub headOf : List ℕ → ℕ
+headOf m = headSizeIn (versionOf m)
 
 -- where the entry at an address begins
 abbrev pub entryStart : List ℕ → ℕ → ℕ
@@ -49,7 +61,7 @@ abbrev pub leastSize : ℕ
 leastSize = headSize + entrySize * leastCount
 
 abbrev pub mostSize : ℕ
-mostSize = headSize + entrySize * mostCount
+mostSize = flaggedHeadSize + entrySize * mostCount
 
 -- the bytes of the whole: the head and n entries
 abbrev pub sizeOf : List ℕ → ℕ
@@ -81,3 +93,8 @@ entryAt m n a =
 -- entry i is the register at address i
 abbrev pub registerAt : List ℕ → ℕ → Entry
 registerAt m a = entryAt m (countOf m) a
+
+-- Two maps with the same registers.
+pub record SameRegisters (m m′ : List ℕ) : Type 0 where
+  pub same-count : countOf m ≡ countOf m′
+  pub same-entry : (a : ℕ) → registerAt m a ≡ registerAt m′ a

@@ -7,8 +7,8 @@ ghost use Rattle.bits.specs.Bytes.{byteAt};
 ghost use Rattle.regmap.specs.Format.{entryStart, entryAt};
 use crate::ENTRY_SIZE;
 use crate::Entry;
-use crate::HEAD_SIZE;
 use crate::byte_at;
+use crate::head;
 
 // A byte of the entry at an address of a map of `count` registers, counted from the entry's first; 0 beyond them.
 fn part_at(map: &[u8], count: usize, address: usize, part: u8) -> u8
@@ -21,7 +21,7 @@ fn part_at(map: &[u8], count: usize, address: usize, part: u8) -> u8
     if 0x4000_0000_0000_0000 <= address {
         return 0;
     }
-    byte_at(map, HEAD_SIZE + ENTRY_SIZE * address + part as usize)
+    byte_at(map, head(map) + ENTRY_SIZE * address + part as usize)
 }
 
 // The kind of the register at an address.

@@ -1,7 +1,7 @@
 // The register map: bytes that a caller lends. Nothing of them is copied.
 ghost use mathlib.Core.Path.{_≡_};
 ghost use Rattle.bits.specs.Bytes.{byteAt};
-ghost use Rattle.regmap.specs.Format.{countOf};
+ghost use Rattle.regmap.specs.Format.{countOf, flagsOf, headOf, headSizeIn, versionOf};
 
 mod in_use;
 
@@ -24,17 +24,22 @@ pub const LEAST_COUNT: usize = 16;
 
 pub const MOST_COUNT: usize = 8192;
 
-// The bytes of the length, which it does not count; of the head, which is length, version and n; and of an entry.
+// The version with a flag byte after n.
+pub const FLAGGED: u8 = 2;
+
+// The bytes of the length, which it does not count; of the head, which is length, version and n, and with the flags; and of an entry.
 pub const LENGTH_SIZE: usize = 2;
 
 pub const HEAD_SIZE: usize = 5;
+
+pub const FLAGGED_HEAD_SIZE: usize = 6;
 
 pub const ENTRY_SIZE: usize = 3;
 
 // The bytes of the smallest and of the largest map.
 pub const LEAST_SIZE: usize = HEAD_SIZE + ENTRY_SIZE * LEAST_COUNT;
 
-pub const MOST_SIZE: usize = HEAD_SIZE + ENTRY_SIZE * MOST_COUNT;
+pub const MOST_SIZE: usize = FLAGGED_HEAD_SIZE + ENTRY_SIZE * MOST_COUNT;
 
 // What the map says of the register at one address.
 pub struct Entry {
@@ -48,6 +53,42 @@ fn byte_at(map: &[u8], at: usize) -> u8
     ensures { λ r. ⌜ r ≡ byteAt (now (map .entry)) at ⌝ }
 {
     if at < map.len() { map[at] } else { 0 }
+}
+
+// The bytes of the head of a map in a version.
+pub fn head_size(version: u8) -> usize
+    ensures { λ r. ⌜ r ≡ headSizeIn version ⌝ }
+{
+    if version == FLAGGED {
+        FLAGGED_HEAD_SIZE
+    } else {
+        HEAD_SIZE
+    }
+}
+
+// The version that the map says it has.
+pub fn version(map: &[u8]) -> u8
+    ensures { λ r. ⌜ r ≡ versionOf (now (map .entry)) ⌝ }
+{
+    byte_at(map, 2)
+}
+
+// Where the entries begin.
+pub fn head(map: &[u8]) -> usize
+    ensures { λ r. ⌜ r ≡ headOf (now (map .entry)) ⌝ }
+{
+    head_size(version(map))
+}
+
+// The flags of the map; version 1 has none.
+pub fn flags(map: &[u8]) -> u8
+    ensures { λ r. ⌜ r ≡ flagsOf (now (map .entry)) ⌝ }
+{
+    if version(map) == FLAGGED {
+        byte_at(map, HEAD_SIZE)
+    } else {
+        0
+    }
 }
 
 // How many registers the map says that it has.

@@ -2,22 +2,42 @@
 
 use super::random::Random;
 
-/// Where the entries start: length, version and count stand before them.
-const HEADER: usize = 5;
-
-/// Where in a map this register's kind stands; mask and default follow it.
-pub fn entry_at(address: usize) -> usize {
-    HEADER + 3 * address
+/// Where in a map this register's kind stands; mask and default follow it. In
+/// version 2 a flag byte stands before the entries too.
+pub fn entry_at(map: &[u8], address: usize) -> usize {
+    let header = if map.get(2) == Some(&2) { 6 } else { 5 };
+    header + 3 * address
 }
 
-/// A map with these entries, its length and count as they should be.
+/// How many registers a map of this length has.
+pub fn count_of(map: &[u8]) -> usize {
+    map.len().saturating_sub(entry_at(map, 0)) / 3
+}
+
+/// A map of version 1 with these entries, its length and count as they should be.
 pub fn map_of(entries: &[[u8; 3]]) -> Vec<u8> {
-    let mut map = Vec::with_capacity(entry_at(entries.len()));
-    map.extend((3 + 3 * entries.len() as u16).to_be_bytes());
-    map.push(1);
-    map.extend((entries.len() as u16).to_be_bytes());
-    map.extend(entries.iter().flatten());
-    map
+    whole_map(1, &[], entries)
+}
+
+/// The same of version 2, with these flags.
+pub fn flagged_map_of(flags: u8, entries: &[[u8; 3]]) -> Vec<u8> {
+    whole_map(2, &[flags], entries)
+}
+
+fn whole_map(version: u8, flags: &[u8], entries: &[[u8; 3]]) -> Vec<u8> {
+    let [count_high, count_low] = (entries.len() as u16).to_be_bytes();
+    let rest = [&[version, count_high, count_low][..], flags, entries.as_flattened()].concat();
+    [&(rest.len() as u16).to_be_bytes()[..], &rest].concat()
+}
+
+/// The entries of a map.
+pub fn entries_of(map: &[u8]) -> Vec<[u8; 3]> {
+    map[entry_at(map, 0)..].as_chunks().0.to_vec()
+}
+
+/// A map as one of version 2 with these flags, whatever it was.
+pub fn with_flags(map: &[u8], flags: u8) -> Vec<u8> {
+    flagged_map_of(flags, &entries_of(map))
 }
 
 /// A good map with nothing special in it: beside the registers that document 01
@@ -38,16 +58,27 @@ pub fn simple_map(count: usize) -> Vec<u8> {
 
 /// Puts other bytes in the place of this register's entry.
 pub fn set_entry(map: &mut [u8], address: usize, entry: [u8; 3]) {
-    map[entry_at(address)..][..3].copy_from_slice(&entry);
+    let at = entry_at(map, address);
+    map[at..at + 3].copy_from_slice(&entry);
 }
 
-/// A good map of so many registers, all that the rules leave free at random.
+/// A good map of so many registers, all that the rules leave free at random, the
+/// version too.
 pub fn good_map(random: &mut Random, count: usize) -> Vec<u8> {
+    let entries = good_entries(random, count);
+    match random.below(4) {
+        0 | 1 => map_of(&entries),
+        flagged => flagged_map_of(flagged as u8 - 2, &entries),
+    }
+}
+
+/// The entries of such a map.
+pub fn good_entries(random: &mut Random, count: usize) -> Vec<[u8; 3]> {
     let mut entries: Vec<_> = (0..count).map(|address| entry(random, address)).collect();
     while matches!((entries[4][2], entries[5][2]), (0x00, 0x00) | (0xFF, 0xFF)) {
         entries[4][2] = random.byte();
     }
-    map_of(&entries)
+    entries
 }
 
 fn entry(random: &mut Random, address: usize) -> [u8; 3] {
@@ -99,6 +130,8 @@ pub enum Damage {
     LengthOfOtherCount,
     AnyLength,
     Version,
+    OtherVersion,
+    ReservedFlag,
     CountOffByOne,
     AnyCount,
     FifteenRegisters,
@@ -123,13 +156,15 @@ pub enum Damage {
 }
 
 impl Damage {
-    pub const ALL: [Damage; 26] = [
+    pub const ALL: [Damage; 28] = [
         Damage::Shorter,
         Damage::FewerThanFive,
         Damage::LengthOffByOne,
         Damage::LengthOfOtherCount,
         Damage::AnyLength,
         Damage::Version,
+        Damage::OtherVersion,
+        Damage::ReservedFlag,
         Damage::CountOffByOne,
         Damage::AnyCount,
         Damage::FifteenRegisters,
@@ -170,20 +205,30 @@ impl Damage {
             set_entry(map, address, entry);
         }
         if matches!(self, Damage::ProductZero | Damage::ProductOnes) {
-            map[entry_at(0x0005) + 2] = map[entry_at(0x0004) + 2];
+            let (low, high) = (entry_at(map, 0x0004) + 2, entry_at(map, 0x0005) + 2);
+            map[high] = map[low];
         }
     }
 
     fn break_header(self, random: &mut Random, map: &mut Vec<u8>) {
-        let count = (map.len() - HEADER) / 3;
-        let length = 3 + 3 * count;
+        let (count, length) = (count_of(map), map.len() - 2);
         match self {
             Damage::Shorter => map.truncate(random.below(map.len())),
-            Damage::FewerThanFive => map.truncate(random.below(HEADER)),
+            Damage::FewerThanFive => map.truncate(random.below(5)),
             Damage::LengthOffByOne => put(map, 0, random.pick(&[length - 1, length + 1])),
             Damage::LengthOfOtherCount => put(map, 0, random.pick(&[length - 3, length + 3])),
             Damage::AnyLength => put(map, 0, other(random, length)),
             Damage::Version => map[2] = map[2].wrapping_add(random.between(1, 255) as u8),
+            // With its length, but a byte too few or too many for it.
+            Damage::OtherVersion => {
+                let other = 3 - map[2];
+                put(map, 0, usize::from(other) + 2 + 3 * count);
+                map[2] = other;
+            }
+            Damage::ReservedFlag => {
+                let flags = random.below(2) | random.between(1, 127) << 1;
+                *map = with_flags(map, flags as u8);
+            }
             Damage::CountOffByOne => put(map, 3, random.pick(&[count - 1, count + 1])),
             Damage::AnyCount => put(map, 3, other(random, count)),
             Damage::FifteenRegisters => *map = resized(map, 15),
@@ -210,7 +255,7 @@ impl Damage {
             }
             Damage::ReadOnlyPlace => {
                 let address = random.pick(&[3, 4, 5, 6, 0x0B, 0x0C, 0x0D]);
-                let kept = map[entry_at(address) + 2];
+                let kept = map[entry_at(map, address) + 2];
                 (address, [random.pick(&[2, 3]), 0, kept])
             }
             Damage::BlankPlace => {
@@ -232,8 +277,7 @@ impl Damage {
 
 /// An address where any kind but control may stand.
 fn free_address(random: &mut Random, map: &[u8]) -> usize {
-    let count = (map.len() - HEADER) / 3;
-    let beyond = random.below(count - 16 + 1);
+    let beyond = random.below(count_of(map) - 16 + 1);
     match beyond {
         0 => random.pick(&[0x0002, 0x0008, 0x0009]),
         _ => 15 + beyond,
@@ -242,9 +286,12 @@ fn free_address(random: &mut Random, map: &[u8]) -> usize {
 
 /// The same map with entries left off, or with plain ones added.
 fn resized(map: &[u8], count: usize) -> Vec<u8> {
-    let mut entries = map[HEADER..].as_chunks().0.to_vec();
+    let mut entries = entries_of(map);
     entries.resize(count, [2, 0xFF, 0x00]);
-    map_of(&entries)
+    match map[2] {
+        1 => map_of(&entries),
+        _ => flagged_map_of(map[5], &entries),
+    }
 }
 
 fn put(map: &mut [u8], at: usize, number: usize) {

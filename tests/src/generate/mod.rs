@@ -82,7 +82,7 @@ fn break_rule(random: &mut Random, map: &mut Vec<u8>, samples: &mut Vec<u8>) {
 /// a place rule sees, sometimes one that leaves the map good.
 fn spoil_map(random: &mut Random, map: &mut [u8]) {
     for _ in 0..random.between(1, 2) {
-        let at = random.below(map.len().min(maps::entry_at(20)));
+        let at = random.below(map.len().min(maps::entry_at(map, 20)));
         map[at] = random.pick(&[0, 1, 2, 3, 4, 5, map[at] ^ 1, 0xFF]);
     }
 }

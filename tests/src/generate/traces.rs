@@ -1,6 +1,6 @@
 //! Traces: what a bus master and a poor probe could have put on the lines.
 
-use super::maps::entry_at;
+use super::maps::{count_of, entry_at};
 use super::random::Random;
 
 const CSB: u8 = 1 << 0;
@@ -45,11 +45,10 @@ pub fn trace(random: &mut Random, map: &[u8], length: usize, exactly: bool) -> V
         1 => Sampling::Uneven,
         _ => Sampling::Once,
     };
-    let count = map.len().saturating_sub(entry_at(0)) / 3;
     let mut master = Master {
         random,
         map,
-        count,
+        count: count_of(map),
         believed: Belief::default(),
         last_written: 0,
         sampling,
@@ -196,7 +195,7 @@ impl Master<'_> {
 
     /// The register's default, or 0 beyond the map.
     fn default(&self, address: u16) -> u8 {
-        self.map.get(entry_at(usize::from(address)) + 2).copied().unwrap_or(0)
+        self.map.get(entry_at(self.map, usize::from(address)) + 2).copied().unwrap_or(0)
     }
 
     /// A byte that a chip might answer with.

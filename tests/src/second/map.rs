@@ -1,4 +1,7 @@
-//! The register map: its test, and access to the entries of a map that passed.
+//! The register map in its two versions (document 02, Ask 3): its test, and access
+//! to flags and entries of a map that passed.
+
+use std::ops::RangeInclusive;
 
 pub const BLANK: u8 = 0;
 pub const READ_ONLY: u8 = 1;
@@ -6,15 +9,21 @@ pub const PLAIN: u8 = 2;
 pub const BUFFERED: u8 = 3;
 pub const CONTROL: u8 = 4;
 
-/// Length, version and count stand before the entries.
-pub const HEADER: usize = 5;
-const VERSION: u8 = 1;
+pub const VERSION_1: u8 = 1;
+/// Has a flag byte after the count.
+pub const VERSION_2: u8 = 2;
+/// The flags that no map has. Bit 0 asks for a transfer when the select rises,
+/// and nothing does that yet.
+const RESERVED_FLAGS: u8 = 0b1111_1110;
+/// How many registers a map may have.
+const COUNTS: RangeInclusive<usize> = 16..=8_192;
 /// The registers that the place rules speak of, all below this address.
 const PLACES: usize = 16;
 
 /// A map that passed the test. It refers to the lent bytes and copies none.
 #[derive(Clone, Copy)]
 pub struct RegisterMap<'a> {
+    flags: u8,
     entries: &'a [[u8; 3]],
 }
 
@@ -24,22 +33,31 @@ pub fn map_test(bytes: &[u8]) -> u8 {
 }
 
 /// The bytes of the whole map that this length field announces, its own two
-/// included, or `None` if no map has this length.
+/// included, or `None` if no map of either version has this length.
 pub fn whole_length(length: u16) -> Option<usize> {
     let length = usize::from(length);
-    let fits = length % 3 == 0 && (16..=8192).contains(&(length / 3).wrapping_sub(1));
+    // After version and count, and after the flags too.
+    let fits = [3, 4].into_iter().any(|before| {
+        let entries = length.saturating_sub(before);
+        entries % 3 == 0 && COUNTS.contains(&(entries / 3))
+    });
     fits.then_some(2 + length)
 }
 
 impl<'a> RegisterMap<'a> {
     /// The map in use, or the number that refuses it.
     pub fn new(bytes: &'a [u8]) -> Result<Self, u8> {
-        let entries = entries_of(bytes).ok_or(2)?;
+        let (flags, entries) = parts_of(bytes).ok_or(2)?;
         if entries_stand(entries) {
-            Ok(RegisterMap { entries })
+            Ok(RegisterMap { flags, entries })
         } else {
             Err(3)
         }
+    }
+
+    /// The flag byte; 0 in version 1, which has none.
+    pub fn flags(&self) -> u8 {
+        self.flags
     }
 
     pub fn count(&self) -> usize {
@@ -56,19 +74,24 @@ impl<'a> RegisterMap<'a> {
     }
 }
 
-/// What number 2 looks at: length, version and n, and bytes neither missing
-/// nor left over.
-fn entries_of(bytes: &[u8]) -> Option<&[[u8; 3]]> {
-    if bytes.len() < HEADER {
+/// What number 2 looks at: length, version, n and flags, and bytes neither
+/// missing nor left over. Gives the flags and the entries.
+fn parts_of(bytes: &[u8]) -> Option<(u8, &[[u8; 3]])> {
+    let &[length_high, length_low, version, count_high, count_low, ref rest @ ..] = bytes else {
         return None;
-    }
-    let length = usize::from(u16::from_be_bytes([bytes[0], bytes[1]]));
-    let count = usize::from(u16::from_be_bytes([bytes[3], bytes[4]]));
-    let header_stands = bytes[2] == VERSION
-        && (16..=8192).contains(&count)
-        && length == 3 + 3 * count
-        && bytes.len() == 2 + length;
-    header_stands.then(|| bytes[HEADER..].as_chunks().0)
+    };
+    let (flags, entries) = match (version, rest) {
+        (VERSION_1, _) => (0, rest),
+        (VERSION_2, &[flags, ref entries @ ..]) => (flags, entries),
+        _ => return None,
+    };
+    let length = usize::from(u16::from_be_bytes([length_high, length_low]));
+    let count = usize::from(u16::from_be_bytes([count_high, count_low]));
+    let header_stands = bytes.len() == 2 + length
+        && COUNTS.contains(&count)
+        && entries.len() == 3 * count
+        && flags & RESERVED_FLAGS == 0;
+    header_stands.then_some((flags, entries.as_chunks().0))
 }
 
 /// What number 3 looks at: the rule of each entry, and what each place asks.

@@ -11,10 +11,12 @@
 //! | `reader` | Records; Numbers given back, 1 to 6 |
 //! | `sender` | The sender; Numbers given back, 7 to 11 |
 //! | `report` | The bench program |
+//! | `converter` | document 02, Ask 3 |
 //!
 //! The call for the next record, in `reader`, is the library's own: document 01
 //! does not have it.
 
+pub mod converter;
 pub mod map;
 pub mod reader;
 pub mod registers;
@@ -23,8 +25,9 @@ pub mod sender;
 pub mod session;
 pub mod settings;
 
-/// What the reader and the sender give back: the number, and how many records
-/// or samples stand at the start of the lent buffer (0 with any refusal).
+/// What the reader, the sender and the converter give back: the number, and how
+/// many records, samples or bytes of a map stand at the start of the lent buffer
+/// (0 with any refusal).
 #[derive(Clone, Copy, Debug, PartialEq, Eq)]
 pub struct Answer {
     pub number: u8,

@@ -10,7 +10,7 @@ use super::settings::asks_slow;
 
 pub const PIECE: usize = 4_096;
 const LARGEST_COUNT: usize = 8_192;
-const LARGEST_MAP: usize = 24_581;
+const LARGEST_MAP: usize = 24_582;
 /// One record as a line: `W 000A 3C 3C 1 3C` and its end.
 const LINE: usize = 18;
 

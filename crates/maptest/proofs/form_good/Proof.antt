@@ -7,7 +7,7 @@ use borrow.Author.Tests.{lt-leb, le-leb}
 use lib.ListN.{length}
 use Rattle.bits.proofs.Cases.{joined-every}
 use Rattle.regmap.specs.Format.{headSize}
-use Rattle.regmap.proofs.Laws.{count-fits}
+use Rattle.regmap.proofs.Laws.{count-fits, head-bounds}
 use Rattle.maptest.specs.MapTest.{formTests}
 use Rattle.maptest.proofs.form_good.Statement.{statement}
 use Rattle.maptest.proofs.form_good.Tie as tie
@@ -26,11 +26,14 @@ returns c =
 count-requires : tie.Need-count-requires
 count-requires c κs = search needs
 
+head-requires : tie.Need-head-requires
+head-requires c κs = search needs
+
 mul-size : tie.Need-mul-size
-mul-size c = omega (arith, small c)
+mul-size c = omega (arith, small (c .before))
 
 add-size : tie.Need-add-size
-add-size c = omega (arith, small c)
+add-size c = omega (arith, small (c .before), c .head .ensures, head-bounds (c .before .before .before .before .args .map .now))
 
 shared-slice-read-length : tie.Need-shared-slice-read-length
 shared-slice-read-length c = search needs
@@ -50,18 +53,22 @@ cast-length-2 c = omega (arith, c .shared-slice-known3 .given 1)
 add-length : tie.Need-add-length
 add-length c = let byte = c .shared-slice-known3 .given in omega (arith, byte 0, byte 1)
 
-add-result : tie.Need-add-result
-add-result c = let byte = c .shared-slice-known3 .given in omega (arith, byte 0, byte 1)
+shared-slice-read-version : tie.Need-shared-slice-read-version
+shared-slice-read-version c = search needs
 
-shared-slice-read-result : tie.Need-shared-slice-read-result
-shared-slice-read-result c = search needs
+add-result : tie.Need-add-result
+add-result c = let byte = c .before .shared-slice-known3 .given in omega (arith, byte 0, byte 1)
+
+flags-requires : tie.Need-flags-requires
+flags-requires c κs = search needs
 
 returns-2 : tie.Need-returns-2
 returns-2 c =
-    let n = c .before .before .before in
+    let h = c .before .before .before .before in
+    let n = h .before in
     let m = n .before .before .before .args .map .now in
     let long = le-leb headSize (length m) (omega arith) in
-    rw (n .count .ensures, long) (rw long at (joined-every true (formTests m)))
+    rw (n .count .ensures, h .head .ensures, c .flags .ensures, long) (rw long at (joined-every true (formTests m)))
 
 pub form-good-spec : {M : Type 1} → statement M
 form-good-spec =
@@ -69,6 +76,7 @@ form-good-spec =
     (tie.spec
     returns
     count-requires
+    head-requires
     mul-size
     add-size
     shared-slice-read-length
@@ -77,6 +85,7 @@ form-good-spec =
     shared-slice-read-length-2
     cast-length-2
     add-length
+    shared-slice-read-version
     add-result
-    shared-slice-read-result
+    flags-requires
     returns-2)

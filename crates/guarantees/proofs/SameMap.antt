@@ -1,0 +1,93 @@
+-- Whatever reads a map reads its count and its registers.
+use Prim.Native.Nat.{ℕ, zero, suc, _+_}
+use mathlib.Core.Path.{_≡_, refl, ap, sym, _∙_}
+use mathlib.Core.List.{List, [], _∷_}
+use Rattle.regmap.specs.Format.{countOf, SameRegisters}
+use Rattle.convert.proofs.Laws.{accepted}
+use Rattle.convert.proofs.Made.{converted-maps}
+use Rattle.settings.specs.declared.Settings.{Settings}
+use Rattle.session.specs.declared.Event.{Event}
+use Rattle.session.specs.declared.Event.the-variants as event
+use Rattle.session.specs.Event.{eventOf}
+use Rattle.registers.specs.Banks.{Banks, banks, defaultsFrom, defaultBanks, transferFrom, transferred}
+use Rattle.registers.specs.Read.{dueByte}
+use Rattle.writing.specs.declared.Effect.{Effect}
+use Rattle.writing.specs.declared.Effect.the-variants.{Nothing, Active, Buffer, Control, Transfer, Reset, Ignored}
+use Rattle.writing.specs.Write.{effectAt, applied, writeBanks}
+use Rattle.records.specs.Records.{recordOf}
+use Rattle.records.specs.BanksAfter.{banksAfter}
+use Rattle.run.specs.Reading.{World, worldAfter, runOf, recordsOf}
+use Rattle.refusals.specs.Numbers.{openNumber, readNumber}
+use Rattle.reader.specs.Calls.{openOf, readOf}
+use Rattle.guarantees.specs.SameMap.{SameMap, ConvertedAlike}
+
+module _ (m m′ : List ℕ) (s : SameRegisters m m′) where
+  defaults-same : (a k : ℕ) → defaultsFrom m a k ≡ defaultsFrom m′ a k
+  unfolding defaultsFrom
+  defaults-same a zero = refl
+  defaults-same a (suc k) = rw (s .same-entry a, defaults-same (a + 1) k)
+
+  opened-same : defaultBanks m ≡ defaultBanks m′
+  unfolding defaultBanks
+  opened-same = rw (s .same-count, defaults-same 0 (countOf m′))
+
+  transfer-same : (a : ℕ) (active buffer : List ℕ) → transferFrom m a active buffer ≡ transferFrom m′ a active buffer
+  unfolding transferFrom
+  transfer-same a [] buffer = refl
+  transfer-same a (x ∷ active) buffer = rw (s .same-entry a, transfer-same (a + 1) active buffer)
+
+  transferred-same : (b : Banks) → transferred m b ≡ transferred m′ b
+  unfolding transferred
+  transferred-same b = ap (λ (l : List ℕ). banks l (b .buffer)) (transfer-same 0 (b .active) (b .buffer))
+
+  applied-same : (b : Banks) (a : ℕ) (e : Effect) → applied m b a e ≡ applied m′ b a e
+  unfolding applied
+  applied-same b a Nothing = refl
+  applied-same b a (Active byte moved) = refl
+  applied-same b a (Buffer byte moved) = refl
+  applied-same b a Control = refl
+  applied-same b a Transfer = transferred-same b
+  applied-same b a Reset = opened-same
+  applied-same b a Ignored = refl
+
+  write-same : (b : Banks) (a v : ℕ) → writeBanks m b a v ≡ writeBanks m′ b a v
+  unfolding writeBanks
+  write-same b a v = rw (s .same-entry a) (applied-same b a (effectAt m′ b a v))
+
+  record-same : (b : Banks) (t : Settings) (e : Event) → recordOf m b t e ≡ recordOf m′ b t e
+  unfolding recordOf dueByte
+  record-same b t event.Nothing = refl
+  record-same b t (event.Whole read a v) = rw (s .same-entry a)
+  record-same b t (event.Aborted a bits inData) = refl
+
+  after-same : (b : Banks) (e : Event) → banksAfter m b e ≡ banksAfter m′ b e
+  unfolding banksAfter
+  after-same b event.Nothing = refl
+  after-same b (event.Whole read a v) = rw (write-same b a v)
+  after-same b (event.Aborted a bits inData) = refl
+
+  one-same : (w : World) (x : ℕ) → worldAfter m w x ≡ worldAfter m′ w x
+  one-same w x = rw (after-same (w .banks) (eventOf (w .session) x))
+
+  run-same : (w : World) (xs : List ℕ) → runOf m w xs ≡ runOf m′ w xs
+  unfolding runOf
+  run-same w [] = refl
+  run-same w (x ∷ xs) = run-same (worldAfter m w x) xs ∙ ap (λ (v : World). runOf m′ v xs) (one-same w x)
+
+  records-same : (w : World) (xs : List ℕ) → recordsOf m w xs ≡ recordsOf m′ w xs
+  unfolding recordsOf
+  records-same w [] = refl
+  records-same w (x ∷ xs) =
+      rw (record-same (w .banks) (w .session .settings) (eventOf (w .session) x), records-same (worldAfter m w x) xs, one-same w x)
+
+pub same-map : SameMap
+unfolding openOf openNumber readOf readNumber
+same-map m m′ s n = record {
+  opened = λ b. rw (n, opened-same m m′ s, s .same-count);
+  read = λ w xs records. rw (n, s .same-count, run-same m m′ s w xs, records-same m m′ s w xs);
+}
+
+pub converted-alike : ConvertedAlike
+converted-alike version wished m room bytes z =
+    let made = converted-maps version wished m room bytes z in
+    same-map m _ (made .same-registers) (accepted version m room z .good ∙ sym (made .good))

@@ -1,0 +1,28 @@
+-- Document 02, Ask 3: both versions are the same map to opening and reading.
+use Prim.Native.Nat.{ℕ}
+use mathlib.Core.Path.{_≡_}
+use mathlib.Core.Bool.{true}
+use mathlib.Core.List.{List}
+use lib.Pow.{areBytes}
+use Rattle.regmap.specs.Format.{SameRegisters}
+use Rattle.maptest.specs.MapTest.{mapNumber}
+use Rattle.convert.specs.Convert.{convertedTo, convertNumber}
+use Rattle.convert.specs.Made.{Wished}
+use Rattle.registers.specs.Banks.{Banks}
+use Rattle.run.specs.Reading.{World}
+use Rattle.reader.specs.Calls.{openOf, readOf}
+
+-- Every call leaves the same with either map: number, session, both banks and records.
+pub record ReadAlike (m m′ : List ℕ) : Type 0 where
+  pub opened : (b : Banks) → openOf m b ≡ openOf m′ b
+  pub read : (w : World) (samples records : List ℕ) → readOf m w samples records ≡ readOf m′ w samples records
+
+-- Maps with the same registers, which the map test gives the same number, are read alike.
+abbrev pub SameMap : Type 0
+SameMap = (m m′ : List ℕ) → SameRegisters m m′ → mapNumber m ≡ mapNumber m′ → ReadAlike m m′
+
+-- So are a map and what the converter makes of it.
+abbrev pub ConvertedAlike : Type 0
+ConvertedAlike =
+    (version : ℕ) → Wished version → (m : List ℕ) (room : ℕ) → areBytes m ≡ true → convertNumber version m room ≡ 0
+    → ReadAlike m (convertedTo version m)
