@@ -73,7 +73,9 @@ enum couplingnut_number {
     COUPLINGNUT_BAD_START = 9,          /* the start address is above 0x7FFF */
     COUPLINGNUT_BAD_SINGLE = 10,        /* a single-instruction write with 0x0000 or 0x0001 anywhere but last */
     COUPLINGNUT_SHORT_OUT = 11,         /* the outgoing buffer is too short */
-    COUPLINGNUT_FLAG_LOST = 13          /* a map with a flag set has no version 1 */
+    COUPLINGNUT_FLAG_LOST = 13,         /* a map with a flag set has no version 1 */
+    COUPLINGNUT_BAD_LIST = 14,          /* a list ends inside an order, or has one of another form, or more than 64 */
+    COUPLINGNUT_LONG_SETUP = 15         /* the orders of a list give more than 65,536 samples in total */
 };
 
 /* How many bytes a record has, and how many hold the records of so many samples, whatever they are. */
@@ -115,6 +117,12 @@ enum { COUPLINGNUT_LSB_FIRST = 1, COUPLINGNUT_ASCENDING = 2, COUPLINGNUT_SINGLE_
 
 /* No order takes more samples: 3 + 48 * 1,000, for 1,000 bytes with single instruction. Streaming takes 35 + 16 * count. */
 enum { COUPLINGNUT_MOST_SAMPLES = 48003 };
+
+/* A list has no more orders, and gives no more samples in total: a recording that one call of the reader takes. */
+enum { COUPLINGNUT_MOST_ORDERS = 64, COUPLINGNUT_MOST_SETUP = 65536 };
+
+/* How many bytes an order with so much data has in a list. */
+#define COUPLINGNUT_LISTED_SIZE(data_length) (8 + (data_length))
 
 /*
  * What the library exports.
@@ -176,7 +184,18 @@ COUPLINGNUT_NOT_NULL
 uint32_t couplingnut_send(uint64_t direction, uint64_t settings, uint64_t start, uint64_t count, const uint8_t *data,
                           size_t data_length, uint8_t *out, size_t out_length, uint64_t *samples);
 
-/* What a number says and what to do, in words, for 0 to 11 and 13; never null. Its code is host/message.c. */
+/*
+ * Sends a whole setup: puts the samples of up to 64 orders, each sent after the one before it, at the start of out, and their count in
+ * *samples: 0, 7 to 11, 14 or 15. The rest of out is unchanged. `settings` is one number for all of them. An order of the list is
+ * 2 bytes, how many follow them (6 and the data); 1 byte, the version, 1; 1 byte, the direction; 2 bytes, the start address; 2 bytes,
+ * the count; then the data, as for couplingnut_send. Numbers of 2 bytes have the high byte first. 14 comes before all else; 7 to 10 are
+ * those of the first bad order; 15 comes before 11. An empty list gives no samples, with any settings number.
+ */
+COUPLINGNUT_NOT_NULL
+uint32_t couplingnut_send_setup(uint64_t settings, const uint8_t *list, size_t list_length, uint8_t *out, size_t out_length,
+                                uint64_t *samples);
+
+/* What a number says and what to do, in words, for 0 to 15 but 12; never null. Its code is host/message.c. */
 const char *couplingnut_message(uint32_t number);
 
 /* An order to the sender. */
@@ -205,6 +224,37 @@ static inline uint32_t couplingnut_send_order(const struct couplingnut_order *or
     return couplingnut_send(order->direction, order->settings, order->start, order->count,
                             order->data_length == 0 ? &no_data : order->data, order->data_length,
                             out_length == 0 ? &no_room : out, out_length, samples);
+}
+
+/* couplingnut_send_setup, where list and out may be null if their lengths are 0. The other duties stay. */
+static inline uint32_t couplingnut_send_list(uint64_t settings, const uint8_t *list, size_t list_length, uint8_t *out,
+                                             size_t out_length, uint64_t *samples)
+{
+    const uint8_t no_list = 0;
+    uint8_t no_room = 0;
+    return couplingnut_send_setup(settings, list_length == 0 ? &no_list : list, list_length,
+                                  out_length == 0 ? &no_room : out, out_length, samples);
+}
+
+/*
+ * Puts an order into a list, but for its settings: COUPLINGNUT_LISTED_SIZE(order->data_length) bytes at `at`, which it gives back. The
+ * form has a byte for the direction and two for the start, the count and the length; a larger number is cut to them.
+ */
+static inline size_t couplingnut_list_order(const struct couplingnut_order *order, uint8_t *at)
+{
+    size_t size = 6 + order->data_length;
+    at[0] = (uint8_t)(size >> 8);
+    at[1] = (uint8_t)size;
+    at[2] = 1;
+    at[3] = (uint8_t)order->direction;
+    at[4] = (uint8_t)(order->start >> 8);
+    at[5] = (uint8_t)order->start;
+    at[6] = (uint8_t)(order->count >> 8);
+    at[7] = (uint8_t)order->count;
+    for (size_t i = 0; i < order->data_length; i++) {
+        at[8 + i] = order->data[i];
+    }
+    return 2 + size;
 }
 
 #ifdef __cplusplus

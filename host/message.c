@@ -3,6 +3,8 @@
  */
 #include "couplingnut.h"
 
+static const char not_given[] = "no call gives this number";
+
 /* By number. Each says what is wrong; after the semicolon, what to do. */
 static const char *const messages[] = {
     "done",
@@ -20,14 +22,17 @@ static const char *const messages[] = {
     "a single-instruction write has 0x0000 or 0x0001 anywhere but last; end the run with that byte, or write it on its own",
     "the outgoing buffer is too short; lend 35 + 16 bytes for each byte of the run, or 3 + 48 with single instruction; for a "
     "map 5 + 3 for each register, or 6 + 3 in version 2",
-    NULL,
+    not_given,
     "the map has a flag set, which version 1 has no place for; keep it in version 2, or clear the flag",
+    "the list ends inside an order, an order of it has a length below 6 or another version than 1, or there are more than 64; "
+    "write the lengths again, or cut the list in two",
+    "the orders give more than 65,536 samples in total; cut the list in two",
 };
 
 const char *couplingnut_message(uint32_t number)
 {
-    if (number >= sizeof messages / sizeof messages[0] || messages[number] == NULL) {
-        return "no call gives this number";
+    if (number >= sizeof messages / sizeof messages[0]) {
+        return not_given;
     }
     return messages[number];
 }

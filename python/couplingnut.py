@@ -20,8 +20,8 @@ import ctypes
 import os
 from typing import NamedTuple
 
-__all__ = ['Record', 'Refused', 'Session', 'Settings', 'SettingsInUse', 'banks', 'map_test', 'message', 'next_record', 'open', 'read',
-           'send', 'to_version_1', 'to_version_2', 'WRITE', 'READ', 'LSB_FIRST', 'ASCENDING', 'SINGLE_INSTRUCTION']
+__all__ = ['Record', 'Refused', 'Session', 'Settings', 'SettingsInUse', 'banks', 'listed', 'map_test', 'message', 'next_record', 'open',
+           'read', 'send', 'send_setup', 'to_version_1', 'to_version_2', 'WRITE', 'READ', 'LSB_FIRST', 'ASCENDING', 'SINGLE_INSTRUCTION']
 
 # The direction of an order, and what its settings number is the sum of.
 WRITE, READ = 0, 1
@@ -31,6 +31,8 @@ SESSION_SIZE = 19
 RECORD_SIZE = 7
 MOST_SAMPLES = 48003  # No order gives more.
 MOST_MAP = 24582  # No map is longer.
+MOST_SETUP = 65536  # No list of orders gives more.
+LISTED_VERSION = 1  # The version of the form of an order in a list.
 PHASES = ('rest', 'instruction', 'data')
 
 
@@ -51,7 +53,8 @@ def _declared(library):
     converting = [given, size, lent, size, told]
     for name, types in [('map_test', [given, size]), ('to_version_1', converting), ('to_version_2', converting),
                         ('open', opening), ('read', reading), ('next_record', reading + [told]),
-                        ('send', [wide, wide, wide, wide, given, size, lent, size, told])]:
+                        ('send', [wide, wide, wide, wide, given, size, lent, size, told]),
+                        ('send_setup', [wide, given, size, lent, size, told])]:
         call = getattr(library, 'couplingnut_' + name)
         call.argtypes, call.restype = types, ctypes.c_uint32
     library.couplingnut_message.argtypes, library.couplingnut_message.restype = [ctypes.c_uint32], ctypes.c_char_p
@@ -277,4 +280,18 @@ def send(direction, settings, start, count, data=b'', room=MOST_SAMPLES):
     data, out, samples = bytes(data), bytearray(room), ctypes.c_uint64()
     _accept(_LIBRARY.couplingnut_send(_wide(direction, 'direction'), _wide(settings, 'settings'), _wide(start, 'start'),
                                       _wide(count, 'count'), data, len(data), *_lent(out), ctypes.byref(samples)))
+    return bytes(out[:samples.value])
+
+
+def listed(direction, start, count, data=b''):
+    """An order as it stands in a list for `send_setup`. Join several with b''.join."""
+    data = bytes(data)
+    length = (6 + len(data)).to_bytes(2, 'big')
+    return length + bytes([LISTED_VERSION, direction]) + start.to_bytes(2, 'big') + count.to_bytes(2, 'big') + data
+
+
+def send_setup(settings, orders, room=MOST_SETUP):
+    """The samples of up to 64 orders, each sent after the one before it: `orders` are the bytes of a list. Refused: 7 to 11, 14, 15."""
+    orders, out, samples = bytes(orders), bytearray(room), ctypes.c_uint64()
+    _accept(_LIBRARY.couplingnut_send_setup(_wide(settings, 'settings'), orders, len(orders), *_lent(out), ctypes.byref(samples)))
     return bytes(out[:samples.value])

@@ -170,6 +170,31 @@ class Couplingnut(unittest.TestCase):
         self.assertRaises(ValueError, cn.send, 0, 0, 2 ** 64, 1, b'\0')
         self.assertRaises(ValueError, cn.send, 0, -1, 0x000A, 1, b'\0')
 
+    def test_send_setup(self):
+        """a whole setup is the recordings of its orders, joined"""
+        orders = [(cn.WRITE, 0x000A, 1, b'\x3C'), (cn.READ, 0x0004, 2, b'')] * 20
+        listed = b''.join(cn.listed(*order) for order in orders)
+        for settings in range(8):
+            self.assertEqual(cn.send_setup(settings, listed), b''.join(cn.send(d, settings, s, c, b) for d, s, c, b in orders))
+        session, *banks = opened()
+        _, records = cn.read(MAP, session, *banks, cn.send_setup(0, listed))
+        self.assertEqual([record.address for record in records], [0x000A, 0x0004, 0x0003] * 20)
+        self.assertEqual(cn.send_setup(2 ** 64 - 1, b'', room=0), b'')
+
+    def test_send_setup_refused(self):
+        """each refusal of a setup"""
+        write, read = cn.listed(cn.WRITE, 0x000A, 1, b'\0'), cn.listed(cn.READ, 0x0004, 1000)
+        for end in range(1, len(write)):
+            self.assert_refused(14, cn.send_setup, 8, read + write[:end])
+        self.assert_refused(14, cn.send_setup, 0, b'\0\5' + write[2:7])
+        self.assert_refused(14, cn.send_setup, 0, write * 65)
+        self.assert_refused(7, cn.send_setup, 8, write)
+        self.assert_refused(8, cn.send_setup, 0, write + cn.listed(cn.READ, 0x8000, 1, b'\0') + cn.listed(2, 0, 1, b'\0'))
+        self.assert_refused(9, cn.send_setup, 0, write + cn.listed(cn.WRITE, 0x8000, 1, b'\0'))
+        self.assert_refused(10, cn.send_setup, cn.SINGLE_INSTRUCTION, cn.listed(cn.WRITE, 0x0001, 2, b'\0\0'))
+        self.assert_refused(15, cn.send_setup, 0, read * 5, room=0)
+        self.assert_refused(11, cn.send_setup, 0, write * 2, room=101)
+
     def test_overlap(self):
         """banks that overlap are not handed over"""
         session, active, _ = opened()
@@ -180,7 +205,8 @@ class Couplingnut(unittest.TestCase):
 
     def test_message(self):
         """each number has words of its own"""
-        self.assertEqual(len({cn.message(number) for number in range(14)}), 14)
+        given = [*range(12), 13, 14, 15]
+        self.assertEqual(len({cn.message(number) for number in given + [2 ** 32 - 1]}), len(given) + 1)
 
 
 class Lines(unittest.TextTestResult):

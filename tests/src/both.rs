@@ -5,12 +5,12 @@
 use std::cell::RefCell;
 
 use crate::calls::{Call, Given, Memory};
-use crate::guarded::{Against, Guarded};
 use crate::layout::{from_bytes, to_bytes, SESSION_SIZE};
 use crate::library;
+use crate::made::{agreed, Agreed};
 use crate::second::sender::Order;
 use crate::second::session::Session;
-use crate::second::{converter, map, reader, sender, Answer};
+use crate::second::{converter, map, reader, sender, setup, Answer};
 
 /// The number of a map.
 pub fn map_test(bytes: &[u8]) -> u8 {
@@ -78,39 +78,38 @@ pub fn send(order: &Order, outgoing: &mut [u8]) -> Answer {
     answer
 }
 
-/// A conversion of the second implementation, and the same of the library.
-type Conversion =
-    (fn(&[u8], &mut [u8]) -> Answer, fn(&[u8], &mut [u8], &mut u64) -> u32, &'static str);
-
 pub fn to_version_1(map: &[u8], out: &mut [u8]) -> Answer {
-    convert((converter::to_version_1, library::to_version_1_into, "version 1"), map, out)
+    let second = |[map, out]: [&mut [u8]; 2]| converter::to_version_1(map, out);
+    let product = |[map, out]: [&mut [u8]; 2], length: &mut u64| {
+        library::converter::to_version_1(map, out, length)
+    };
+    keep_last(agreed([map, out], second, product), out)
 }
 
 pub fn to_version_2(map: &[u8], out: &mut [u8]) -> Answer {
-    convert((converter::to_version_2, library::to_version_2_into, "version 2"), map, out)
+    let second = |[map, out]: [&mut [u8]; 2]| converter::to_version_2(map, out);
+    let product = |[map, out]: [&mut [u8]; 2], length: &mut u64| {
+        library::converter::to_version_2(map, out, length)
+    };
+    keep_last(agreed([map, out], second, product), out)
 }
 
-/// The library works in memory against an inaccessible page, after it or before.
-fn convert((second, product, wished): Conversion, map: &[u8], out: &mut [u8]) -> Answer {
-    thread_local! {
-        static MEMORY: RefCell<[Guarded; 3]> =
-            RefCell::new([Guarded::new(32_768), Guarded::new(65_536), Guarded::new(8)]);
-    }
-    let before = out.to_vec();
-    let answer = second(map, out);
-    if library::PRESENT {
-        MEMORY.with_borrow_mut(|[lent_map, lent_out, length]| {
-            let even = (map.len() + before.len()).is_multiple_of(2);
-            let against = if even { Against::PageBefore } else { Against::PageAfter };
-            let lent_map = lent_map.hold(map, against);
-            let lent_out = lent_out.hold(&before, against);
-            let length = length.hold_number(0xDEAD_BEEF_DEAD_BEEF, against);
-            let found = (product(lent_map, lent_out, length), *length);
-            let expected = (u32::from(answer.number), answer.count as u64);
-            assert_eq!(found, expected, "the library to {wished} of {map:02X?}");
-            assert!(lent_out == out, "another map from the library, to {wished} of {map:02X?}");
-            assert!(lent_map == map, "the library altered {map:02X?}");
-        });
-    }
+pub fn send_setup(settings: u64, list: &[u8], out: &mut [u8]) -> Answer {
+    keep_last(try_send_setup(settings, list, out), out)
+}
+
+/// The same, which tells a difference.
+pub fn try_send_setup(settings: u64, list: &[u8], out: &[u8]) -> Agreed<2> {
+    let second = |[list, out]: [&mut [u8]; 2]| setup::send_setup(settings, list, out);
+    let product = |[list, out]: [&mut [u8]; 2], samples: &mut u64| {
+        library::setup::send_setup(settings, list, out, samples)
+    };
+    agreed([list, out], second, product)
+}
+
+/// The answer; the buffer, which is lent last, takes what the call left there.
+fn keep_last<const N: usize>(agreed: Agreed<N>, out: &mut [u8]) -> Answer {
+    let (answer, lent) = agreed.unwrap_or_else(|difference| panic!("{difference}"));
+    out.copy_from_slice(&lent[N - 1]);
     answer
 }

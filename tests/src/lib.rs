@@ -5,9 +5,9 @@
 //! agree on thousands of inputs, a slip in reading the document would have to
 //! have been made twice. [`generate`] makes those inputs from a seed.
 //! [`program`] runs busread. [`library`] calls what is exported to C, and
-//! [`calls`] sets those calls against the second implementation, with memory
-//! from [`guarded`] and sessions as in [`layout`]; [`both`] makes a call by both
-//! sides. [`chip`] is a register map with its session and banks, for tests that
+//! [`calls`] and [`made`] set those calls against the second implementation, with
+//! memory from [`guarded`] and sessions as in [`layout`]; [`both`] makes a call by
+//! both sides. [`chip`] is a register map with its session and banks, for tests that
 //! read a few frames and look at what came of them, and [`book`] what a stopped
 //! run leaves.
 
@@ -22,5 +22,6 @@ pub mod generate;
 pub mod guarded;
 pub mod layout;
 pub mod library;
+pub mod made;
 pub mod program;
 pub mod second;

@@ -1,16 +1,29 @@
-//! The calls of `libcouplingnut.a`, as C makes them.
+//! The calls of `libcouplingnut.a`, as C makes them. Those that document 02 asks
+//! for have a module for each request: a library without them is linked all the
+//! same, and they then answer `None`.
 
 #![allow(unsafe_code)]
 
-pub use calls::{
-    map_test, next_record, open, read, send_into, to_version_1_into, to_version_2_into,
-};
+pub mod converter;
+pub mod setup;
+
+pub use calls::{map_test, next_record, open, read, send_into};
 
 use crate::layout::SessionBytes;
 use crate::second::sender::Order;
 
 /// Whether the library was there when this was built.
 pub const PRESENT: bool = cfg!(host_library);
+
+/// For tests that are nothing without the library.
+pub fn assert_present() {
+    if !PRESENT {
+        panic!("{MISSING}");
+    }
+}
+
+const MISSING: &str = "libcouplingnut.a is missing; build it first: rt staticlib couplingnut \
+                       (HOST_LIB_DIR says where)";
 
 /// The number of a sending, and what it left for the count of samples.
 pub fn send(order: &Order, out: &mut [u8]) -> (u32, u64) {
@@ -91,20 +104,6 @@ mod calls {
             out: *mut u8,
             out_length: usize,
             samples: *mut u64,
-        ) -> u32;
-        fn couplingnut_to_version_1(
-            map: *const u8,
-            map_length: usize,
-            out: *mut u8,
-            out_length: usize,
-            length: *mut u64,
-        ) -> u32;
-        fn couplingnut_to_version_2(
-            map: *const u8,
-            map_length: usize,
-            out: *mut u8,
-            out_length: usize,
-            length: *mut u64,
         ) -> u32;
     }
 
@@ -188,24 +187,6 @@ mod calls {
             )
         }
     }
-
-    /// The number; the length of the map made is left in its place.
-    pub fn to_version_1_into(map: &[u8], out: &mut [u8], length: &mut u64) -> u32 {
-        let (map_length, out_length) = (map.len(), out.len());
-        // SAFETY: as in `open`.
-        unsafe {
-            couplingnut_to_version_1(map.as_ptr(), map_length, out.as_mut_ptr(), out_length, length)
-        }
-    }
-
-    /// As `to_version_1_into`.
-    pub fn to_version_2_into(map: &[u8], out: &mut [u8], length: &mut u64) -> u32 {
-        let (map_length, out_length) = (map.len(), out.len());
-        // SAFETY: as in `open`.
-        unsafe {
-            couplingnut_to_version_2(map.as_ptr(), map_length, out.as_mut_ptr(), out_length, length)
-        }
-    }
 }
 
 /// Stands in where the library is missing: each call then fails and says so.
@@ -234,18 +215,7 @@ mod calls {
         missing()
     }
 
-    pub fn to_version_1_into(_: &[u8], _: &mut [u8], _: &mut u64) -> u32 {
-        missing()
-    }
-
-    pub fn to_version_2_into(_: &[u8], _: &mut [u8], _: &mut u64) -> u32 {
-        missing()
-    }
-
     fn missing() -> ! {
-        panic!(
-            "libcouplingnut.a is missing; build it first: rt staticlib couplingnut \
-             (HOST_LIB_DIR says where)"
-        )
+        panic!("{}", super::MISSING)
     }
 }

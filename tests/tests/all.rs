@@ -17,4 +17,5 @@ mod refusals;
 mod registers;
 mod report;
 mod sender;
+mod setup;
 mod stopped_run;

@@ -6,6 +6,7 @@ ghost use Rattle.convert.specs.Convert.{converting, convertOf};
 ghost use Rattle.registers.specs.Banks.{banks};
 ghost use Rattle.order.specs.Order.{order};
 ghost use Rattle.sender.specs.Calls.{sending, sendOf};
+ghost use Rattle.setup.specs.Calls.{setupOf};
 ghost use Rattle.couplingnut.specs.Calls.{opening, openOf, outcome, readOf, next, nextOf};
 use convert::to_version_1;
 use convert::to_version_2;
@@ -18,6 +19,7 @@ use sessionbytes::SIZE;
 use sessionbytes::are_session;
 use sessionbytes::bytes_of;
 use sessionbytes::session_of;
+use setup::send_setup;
 
 // Whether a map may be used: 0, or 2 where its form is wrong, or 3 where an entry breaks a rule.
 #[no_mangle]
@@ -136,4 +138,20 @@ pub extern "C" fn couplingnut_send(
     let sent = send(direction, settings, start, count, data, out);
     *samples = sent.samples as u64;
     sent.number as u32
+}
+
+// Puts the samples of all orders of a list at the start of the outgoing buffer, and says how many they are. A refusal, 7 to 11,
+// 14 or 15, says 0 samples and leaves the buffer as it was.
+#[no_mangle]
+pub extern "C" fn couplingnut_send_setup(
+    settings: u64,
+    list: &[u8],
+    out: &mut [u8],
+    samples: &mut u64,
+) -> u32
+    ensures { λ r. ⌜ sending r (now (samples .exit)) (now (out .exit)) ≡ setupOf settings (now (list .entry)) (now (out .entry)) ⌝ }
+{
+    let setup = send_setup(settings, list, out);
+    *samples = setup.samples as u64;
+    setup.number as u32
 }

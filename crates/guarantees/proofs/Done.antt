@@ -1,9 +1,8 @@
 -- When a call is done: what a run leaves is sound and fits the map, and the samples of an order are good and few.
-use Prim.Native.Nat.{ℕ, _+_, _*_, _≤_}
+use Prim.Native.Nat.{ℕ, _*_, _≤_}
 use mathlib.Core.Path.{_≡_, refl, sym, ap, _∙_}
-use mathlib.Core.Bool.{Bool, true, false, cond, _&&_, and-assoc}
+use mathlib.Core.Bool.{Bool, true, false, _&&_, and-assoc}
 use mathlib.Core.List.{List, [], _∷_, _++_}
-use native.Mathlib.Omega.{arith}
 use lib.Dec.{leb}
 use lib.ListN.{length}
 use borrow.Author.Tests.{le-leb, eq-eqb}
@@ -19,11 +18,10 @@ use Rattle.run.specs.Reading.{World, worldAfter, runOf, recordCount}
 use Rattle.refusals.specs.Numbers.{samplesGood, banksFit, readNumber}
 use Rattle.refusals.proofs.Laws.{fits-mapped}
 use Rattle.records.proofs.Laws.{mapped-after}
-use Rattle.order.specs.Order.{Order, singleInstruction}
+use Rattle.order.specs.Order.{Order}
 use Rattle.order.specs.Samples.{clocked, orderBits, samplesOf}
-use Rattle.order.proofs.Laws.{admitted}
+use Rattle.order.proofs.Laws.{admitted, most-samples}
 use Rattle.guarantees.specs.AtRest.{AtRest, Accepted}
-use Rattle.guarantees.proofs.Counts.{sample-count}
 
 -- what a call asks of a map, a session and its banks
 pub record Sound (m : List ℕ) (w : World) : Type 0 where
@@ -41,7 +39,7 @@ run-sound m w (x ∷ xs) h =
     })
 
 -- the bank sizes, as the reader tests them
-mapped-fits : (m : List ℕ) (b : Banks) → Mapped m b → banksFit m b ≡ true
+pub mapped-fits : (m : List ℕ) (b : Banks) → Mapped m b → banksFit m b ≡ true
 mapped-fits m b h =
     simp (eq-eqb (length (b .active)) (countOf m) (h .active-size), eq-eqb (length (b .buffer)) (countOf m) (h .buffer-size))
 
@@ -88,10 +86,5 @@ good-part xs ys zs e h =
     let both : (samplesGood xs && samplesGood ys) ≡ true = sym (good-append xs ys) ∙ ap samplesGood e ∙ h in
     (and-left (samplesGood xs) (samplesGood ys) both, and-right (samplesGood xs) (samplesGood ys) both)
 
-few-by : (single : Bool) (k : ℕ) → k ≤ 1000 → cond single (3 + 48 * k) (35 + 16 * k) ≤ 48003
-few-by true k h = omega arith
-few-by false k h = omega arith
-
 pub few-samples : (o : Order) (room : ℕ) → Accepted o room → length (samplesOf o) ≤ 48003
-few-samples o room accepted =
-    omega (arith, sample-count o room accepted, few-by (singleInstruction o) (o .count) (admitted o room (accepted .number) .count .most))
+few-samples o room accepted = most-samples o (admitted o room (accepted .number) .count)

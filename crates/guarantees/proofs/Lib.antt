@@ -14,4 +14,5 @@ pub mod Pieces
 pub mod ReadBack
 pub mod Runs
 pub mod SameMap
+pub mod SetupReadBack
 pub mod StoppedRun

@@ -95,7 +95,7 @@ module _ (m : List ℕ) (w : World) (o : Order) (room : ℕ) (rest : AtRest m w 
       ∙ ap (map (wholeOf (isRead o))) (ap (λ (n : ℕ). take n (runBytes o)) all-whole ∙ take-length (runBytes o))
 
   -- the raise puts the session at rest, and its settings follow from what happened
-  session-end : runOf m w (samplesOf o) .session ≡ resting false (settingsLeft (isRead o) (w .session .settings) (runBytes o))
+  pub session-end : runOf m w (samplesOf o) .session ≡ resting false (settingsLeft (isRead o) (w .session .settings) (runBytes o))
   unfolding samplesOf runOf
   session-end =
       rests
@@ -111,17 +111,17 @@ module _ (m : List ℕ) (w : World) (o : Order) (room : ℕ) (rest : AtRest m w 
       rests : runOf m w (samplesOf o) .session ≡ resting false (before .settings)
       rests = ap (λ (v : World). v .session) (run-append m w (0x00 ∷ clocked (orderBits o)) ending) ∙ end-rests before
 
-  banks-end : runOf m w (samplesOf o) .banks ≡ banksLeft m (isRead o) (w .banks) (runBytes o)
+  pub banks-end : runOf m w (samplesOf o) .banks ≡ banksLeft m (isRead o) (w .banks) (runBytes o)
   banks-end = run-banks m w (samplesOf o) ∙ ap (foldl (banksAfter m) (w .banks)) run-whole ∙ banks-left m (isRead o) (w .banks) (runBytes o)
 
-  count-end : recordCount (w .session) (samplesOf o) ≡ o .count
+  pub count-end : recordCount (w .session) (samplesOf o) ≡ o .count
   count-end =
       run-count (w .session) (samplesOf o)
       ∙ ap length run-whole
       ∙ length-map (runBytes o) (wholeOf (isRead o))
       ∙ run-length o room accepted
 
-  records-end : recordsOf m w (samplesOf o) ≡ recordsLeft m (isRead o) (w .banks) (w .session .settings) (runBytes o)
+  pub records-end : recordsOf m w (samplesOf o) ≡ recordsLeft m (isRead o) (w .banks) (w .session .settings) (runBytes o)
   records-end =
       run-records m w (samplesOf o)
       ∙ ap (recordsBy m (w .banks) (w .session .settings)) run-whole

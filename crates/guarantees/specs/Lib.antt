@@ -6,4 +6,5 @@ pub mod InForce
 pub mod Known
 pub mod ReadBack
 pub mod SameMap
+pub mod SetupReadBack
 pub mod StoppedRun

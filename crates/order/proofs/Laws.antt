@@ -150,3 +150,28 @@ unfolding sendNumber
 room-enough o room room′ h enough =
     let p = passes o room h .0 in
     rw (p .known, p .counts, p .starts, p .late, le-leb (length (samplesOf o)) room′ enough)
+
+-- No order takes more than 48,003 samples.
+pub most-samples : (o : Order) → Counted o → length (samplesOf o) ≤ 48003
+most-samples o k = go (singleInstruction o) (length-counted o k)
+  where
+    go : (single : Bool) → length (samplesOf o) ≡ cond single (3 + 48 * o .count) (35 + 16 * o .count) → length (samplesOf o) ≤ 48003
+    go true e = omega (arith, k .most)
+    go false e = omega (arith, k .most)
+
+-- numbers that agree where a test holds
+same-rest : (t : Bool) (n : ℕ) {p q : ℕ} → (t ≡ true → p ≡ q) → unless t n p ≡ unless t n q
+same-rest true n e = e refl
+same-rest false n e = refl
+
+-- With room for any order, the number is the one with just the room that the order needs.
+pub number-alone : (o : Order) (room : ℕ) → 48003 ≤ room → sendNumber o room ≡ sendNumber o (length (samplesOf o))
+unfolding sendNumber
+number-alone o room h =
+    same-rest (leb (o .direction) 1 && leb (o .settings) 7) 7
+    (λ t. same-rest (every (countTests o)) 8
+    (λ k. same-rest (leb (o .start) 0x7FFF) 9
+    (λ t. same-rest (not (singleInstruction o && not (isRead o) && configuresEarly (runBytes o))) 10
+    (λ t.
+    let n = length (samplesOf o) in
+    rw (le-leb n room (omega (arith, most-samples o (counted o k))), le-leb n n (omega arith))))))

@@ -46,7 +46,7 @@ fn configures_early(single_write: bool, ascending: bool, start: u16, data: &[u8]
 }
 
 // How many samples a run of so many bytes takes.
-fn sample_count(single: bool, count: usize) -> usize
+pub fn sample_count(single: bool, count: usize) -> usize
     requires { ⌜ count ≤ 1000 ⌝ }
     ensures { λ r. ⌜ r ≡ cond single (3 + 48 * count) (35 + 16 * count) ⌝ }
 {

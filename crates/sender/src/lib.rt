@@ -11,7 +11,7 @@ mod samples;
 use bits::bit_at;
 use order::Order;
 use order::number_of;
-use samples::put_samples;
+pub use samples::put_samples;
 
 // What a call of the sender answers: the number, and how many samples it put.
 pub struct Sent {

@@ -7,6 +7,7 @@ pub mod maps;
 pub mod orders;
 pub mod random;
 pub mod sessions;
+pub mod setups;
 pub mod traces;
 
 use maps::Damage;

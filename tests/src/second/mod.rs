@@ -12,6 +12,7 @@
 //! | `sender` | The sender; Numbers given back, 7 to 11 |
 //! | `report` | The bench program |
 //! | `converter` | document 02, Ask 3 |
+//! | `setup` | document 02, Ask 6 |
 //!
 //! The call for the next record, in `reader`, is the library's own: document 01
 //! does not have it.
@@ -24,10 +25,11 @@ pub mod report;
 pub mod sender;
 pub mod session;
 pub mod settings;
+pub mod setup;
 
-/// What the reader, the sender and the converter give back: the number, and how
-/// many records, samples or bytes of a map stand at the start of the lent buffer
-/// (0 with any refusal).
+/// What a call that fills a lent buffer gives back: the number, and how many
+/// records, samples or bytes stand at the start of the buffer (0 with any
+/// refusal).
 #[derive(Clone, Copy, Debug, PartialEq, Eq)]
 pub struct Answer {
     pub number: u8,

@@ -36,7 +36,7 @@ impl Order<'_> {
     }
 
     /// Samples that the order takes, if nothing refuses it.
-    fn length(&self) -> usize {
+    pub(super) fn length(&self) -> usize {
         if self.is_single() {
             3 + 48 * self.count as usize
         } else {
@@ -44,8 +44,8 @@ impl Order<'_> {
         }
     }
 
-    /// The number that refuses the order with a buffer of this length, or 0.
-    fn number(&self, room: usize) -> u8 {
+    /// The number that refuses the order in any room, 7 to 10, or 0.
+    pub(super) fn number(&self) -> u8 {
         let data_due = if self.is_read() { 0 } else { self.count };
         if self.direction > READ || self.settings > 7 {
             7
@@ -55,8 +55,6 @@ impl Order<'_> {
             9
         } else if self.is_single() && !self.is_read() && self.configures_early() {
             10
-        } else if room < self.length() {
-            11
         } else {
             0
         }
@@ -78,11 +76,13 @@ impl Order<'_> {
 /// Puts the order's samples at the start of the outgoing buffer. With a
 /// refusal (7 to 11) the buffer stays as it was.
 pub fn send(order: &Order, outgoing: &mut [u8]) -> Answer {
-    let number = order.number(outgoing.len());
+    let number = order.number();
     if number != 0 {
         return Answer::refused(number);
     }
-    let samples = &mut outgoing[..order.length()];
+    let Some(samples) = outgoing.get_mut(..order.length()) else {
+        return Answer::refused(11);
+    };
     let clocked = 1..samples.len() - 2;
     samples[0] = 0;
     send_bytes(order, &mut samples[clocked]);

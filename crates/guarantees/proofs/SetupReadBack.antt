@@ -1,0 +1,182 @@
+-- A whole setup read back: order after order, each finds the session at rest with the settings of the list.
+use Prim.Native.Nat.{ℕ, zero, suc, _+_, _-_}
+use mathlib.Core.Path.{_≡_, refl, sym, ap, _∙_}
+use mathlib.Core.Bool.{Bool, true, false, cond, not, _||_}
+use mathlib.Core.List.{List, [], _∷_, _++_, map, append-assoc}
+use native.Mathlib.Omega.{arith}
+use native.Mathlib.Nat.{add-assoc, zero-add}
+use lib.ListN.{length, take, drop}
+use lib.Pow.{areBytes}
+use lib.Dec.{eqb, ltb}
+use borrow.Author.Tests.{not-true}
+use Rattle.bits.specs.Bits.{bitAt}
+use Rattle.bits.specs.Buffer.{filled}
+use Rattle.bits.specs.Bytes.{wordAt}
+use Rattle.bits.proofs.Cases.{and-left, and-right, or-left, or-right}
+use Rattle.settings.specs.declared.Settings.{Settings}
+use Rattle.settings.specs.Settings.{settingsAfter}
+use Rattle.session.specs.Step.{stepOf}
+use Rattle.session.specs.Event.{eventOf}
+use Rattle.run.specs.Reading.{World, worldAfter, runOf, recordsOf, recordCount}
+use Rattle.records.specs.Records.{recordOf, recordsIn}
+use Rattle.refusals.specs.Numbers.{samplesGood, readNumber}
+use Rattle.reader.specs.Calls.{outcome, readOf}
+use Rattle.order.specs.Order.{Order, RunByte, isRead, runBytes}
+use Rattle.order.specs.Samples.{samplesOf, allSamples}
+use Rattle.order.specs.Number.{isConfiguration}
+use Rattle.setup.specs.Form.{firstListed, afterFirst, withSettings, listedOf}
+use Rattle.setup.specs.Calls.{mostOrders, ordersOf, firstBad}
+use Rattle.setup.proofs.Numbers.{none-bad, passed}
+use Rattle.guarantees.specs.AtRest.{AtRest, Accepted}
+use Rattle.guarantees.specs.Book.{clearOfConfiguration}
+use Rattle.guarantees.specs.ReadBack.{settingsLeft}
+use Rattle.guarantees.specs.SetupReadBack.{worldPast, worldLeft, setupRecords, setupBytes, configuresLast, anyOrder, SetupReadBack}
+use Rattle.guarantees.proofs.Calls.{run-append}
+use Rattle.guarantees.proofs.Done.{run-sound, rest-sound, mapped-fits, no-refusal, good-append, good-samples}
+use Rattle.guarantees.proofs.ReadBack.{session-end, banks-end, count-end, records-end}
+
+-- ---- samples joined
+
+records-append : (m : List ℕ) (w : World) (xs ys : List ℕ) → recordsOf m w (xs ++ ys) ≡ recordsOf m w xs ++ recordsOf m (runOf m w xs) ys
+unfolding recordsOf runOf
+records-append m w [] ys = refl
+records-append m w (x ∷ xs) ys =
+    rw (records-append m (worldAfter m w x) xs ys)
+    (sym (append-assoc (recordOf m (w .banks) (w .session .settings) (eventOf (w .session) x)) (recordsOf m (worldAfter m w x) xs) _))
+
+count-append : (m : List ℕ) (w : World) (xs ys : List ℕ)
+    → recordCount (w .session) (xs ++ ys) ≡ recordCount (w .session) xs + recordCount (runOf m w xs .session) ys
+unfolding recordCount runOf
+count-append m w [] ys = sym (zero-add _)
+count-append m w (x ∷ xs) ys =
+    rw (count-append m (worldAfter m w x) xs ys)
+    (sym (add-assoc (recordsIn (eventOf (w .session) x)) (recordCount (stepOf (w .session) x) xs) _))
+
+-- ---- a read, or a write clear of 0x0000 and 0x0001, leaves the settings as they were
+
+clear-settings : (t : Settings) (ps : List RunByte) → clearOfConfiguration ps ≡ true → settingsLeft false t ps ≡ t
+unfolding settingsLeft clearOfConfiguration settingsAfter
+clear-settings t [] h = refl
+clear-settings t (p ∷ ps) h =
+    let c = not-true (isConfiguration p) (and-left (not (isConfiguration p)) (clearOfConfiguration ps) h) in
+    let a : eqb (p .address) 0x0000 ≡ false = or-left (eqb (p .address) 0x0000) (eqb (p .address) 0x0001) c in
+    let b : eqb (p .address) 0x0001 ≡ false = or-right (eqb (p .address) 0x0000) (eqb (p .address) 0x0001) c in
+    rw (a, b) (clear-settings t ps (and-right (not (isConfiguration p)) (clearOfConfiguration ps) h))
+
+read-settings : (t : Settings) (ps : List RunByte) → settingsLeft true t ps ≡ t
+unfolding settingsLeft
+read-settings t [] = refl
+read-settings t (p ∷ ps) = read-settings t ps
+
+settings-kept : (read : Bool) (t : Settings) (ps : List RunByte) → (read || clearOfConfiguration ps) ≡ true → settingsLeft read t ps ≡ t
+settings-kept true t ps h = read-settings t ps
+settings-kept false t ps h = clear-settings t ps h
+
+-- ---- the orders of a list to which the call gives 0 are accepted, each with the list's settings
+
+bytes-drop : (n : ℕ) (xs : List ℕ) → areBytes xs ≡ true → areBytes (drop n xs) ≡ true
+bytes-drop zero xs h = h
+bytes-drop (suc n) [] h = h
+bytes-drop (suc n) (x ∷ xs) h = bytes-drop n xs (and-right (ltb x 256) (areBytes xs) h)
+
+bytes-take : (n : ℕ) (xs : List ℕ) → areBytes xs ≡ true → areBytes (take n xs) ≡ true
+bytes-take zero xs h = refl
+bytes-take (suc n) [] h = refl
+bytes-take (suc n) (x ∷ xs) h = rw (and-left (ltb x 256) (areBytes xs) h) (bytes-take n xs (and-right (ltb x 256) (areBytes xs) h))
+
+AllAccepted : ℕ → List Order → Type 0
+AllAccepted settings [] = Unit {0}
+AllAccepted settings (o ∷ os) = (o .settings ≡ settings) × Accepted o (length (samplesOf o)) × AllAccepted settings os
+
+all-accepted : (settings k : ℕ) (l : List ℕ) → areBytes l ≡ true → firstBad (map (withSettings settings) (listedOf k l)) ≡ 0
+    → AllAccepted settings (map (withSettings settings) (listedOf k l))
+unfolding listedOf AllAccepted
+all-accepted settings zero l b z = tt
+all-accepted settings (suc k) l b z = go (eqb (length l) 0) z (all-accepted settings k (afterFirst l) (bytes-drop (2 + wordAt l 0) l b))
+  where
+    go : (t : Bool) → firstBad (map (withSettings settings) (cond t [] (firstListed l ∷ listedOf k (afterFirst l)))) ≡ 0
+        → (firstBad (map (withSettings settings) (listedOf k (afterFirst l))) ≡ 0 → AllAccepted settings (map (withSettings settings) (listedOf k (afterFirst l))))
+        → AllAccepted settings (map (withSettings settings) (cond t [] (firstListed l ∷ listedOf k (afterFirst l))))
+    go true z more = tt
+    go false z more =
+        let f = none-bad (withSettings settings (firstListed l)) (map (withSettings settings) (listedOf k (afterFirst l))) z in
+        (refl, record { number = f .0; data-bytes = bytes-take (wordAt l 0 - 6) (drop 8 l) (bytes-drop 8 l b) }, more (f .1))
+
+-- ---- one order after the other
+
+-- of an order, to be at rest looks at its settings alone
+same-rest : (m : List ℕ) (w : World) (o p : Order) → p .settings ≡ o .settings → AtRest m w o → AtRest m w p
+same-rest m w o p e r = record {
+  good-map = r .good-map;
+  sound = r .sound;
+  at-rest = r .at-rest;
+  bank-sizes = r .bank-sizes;
+  same-lsb = ap (λ (t : ℕ). bitAt t 0) e ∙ r .same-lsb;
+  same-ascending = ap (λ (t : ℕ). bitAt t 1) e ∙ r .same-ascending;
+  same-single = ap (λ (t : ℕ). bitAt t 2) e ∙ r .same-single;
+}
+
+module _ (m : List ℕ) (w : World) (o : Order) (room : ℕ) (rest : AtRest m w o) (accepted : Accepted o room) where
+  past : runOf m w (samplesOf o) ≡ worldPast m w o
+  past = λ i. record { session = session-end m w o room rest accepted i; banks = banks-end m w o room rest accepted i }
+
+  rests-again : settingsLeft (isRead o) (w .session .settings) (runBytes o) ≡ w .session .settings → AtRest m (worldPast m w o) o
+  rests-again e =
+      let s = rw past at (run-sound m w (samplesOf o) (rest-sound m w o rest)) in
+      record {
+        good-map = rest .good-map;
+        sound = s .session-sound;
+        at-rest = refl;
+        bank-sizes = mapped-fits m (worldPast m w o .banks) (s .mapped);
+        same-lsb = rest .same-lsb ∙ ap (λ (t : Settings). t .lsb) (sym e);
+        same-ascending = rest .same-ascending ∙ ap (λ (t : Settings). t .ascending) (sym e);
+        same-single = rest .same-single ∙ ap (λ (t : Settings). t .single) (sym e);
+      }
+
+-- what reading all the samples leaves
+record Left (m : List ℕ) (w : World) (os : List Order) : Type 0 where
+  world : runOf m w (allSamples os) ≡ worldLeft m w os
+  records : recordsOf m w (allSamples os) ≡ setupRecords m w os
+  count : recordCount (w .session) (allSamples os) ≡ setupBytes os
+  good : samplesGood (allSamples os) ≡ true
+
+left-none : (m : List ℕ) (w : World) → Left m w []
+unfolding allSamples worldLeft setupRecords setupBytes runOf recordsOf recordCount samplesGood
+left-none m w = record { world = refl; records = refl; count = refl; good = refl }
+
+left-more :
+    (m : List ℕ) (w : World) (o : Order) (os : List Order) (room : ℕ) → AtRest m w o → Accepted o room
+    → Left m (worldPast m w o) os → Left m w (o ∷ os)
+unfolding allSamples worldLeft setupRecords setupBytes
+left-more m w o os room rest accepted l =
+    let p = past m w o room rest accepted in
+    record {
+      world = run-append m w (samplesOf o) (allSamples os) ∙ rw p (l .world);
+      records = records-append m w (samplesOf o) (allSamples os) ∙ rw (p, records-end m w o room rest accepted, l .records);
+      count = count-append m w (samplesOf o) (allSamples os) ∙ rw (p, count-end m w o room rest accepted, l .count);
+      good = good-append (samplesOf o) (allSamples os) ∙ rw (good-samples o, l .good);
+    }
+
+left-all :
+    (m : List ℕ) (w : World) (settings : ℕ) (os : List Order) → AtRest m w (anyOrder settings) → AllAccepted settings os → configuresLast os ≡ true
+    → Left m w os
+unfolding AllAccepted configuresLast
+left-all m w settings [] rest a h = left-none m w
+left-all m w settings (o ∷ []) rest a h =
+    left-more m w o [] _ (same-rest m w (anyOrder settings) o (a .0) rest) (a .1) (left-none m (worldPast m w o))
+left-all m w settings (o ∷ p ∷ os) rest a h =
+    let r = same-rest m w (anyOrder settings) o (a .0) rest in
+    let kept = settings-kept (isRead o) (w .session .settings) (runBytes o) (and-left (isRead o || clearOfConfiguration (runBytes o)) (configuresLast (p ∷ os)) h) in
+    let again = same-rest m (worldPast m w o) o (anyOrder settings) (sym (a .0)) (rests-again m w o _ r (a .1) kept) in
+    left-more m w o (p ∷ os) _ r (a .1)
+    (left-all m (worldPast m w o) settings (p ∷ os) again (a .2) (and-right (isRead o || clearOfConfiguration (runBytes o)) (configuresLast (p ∷ os)) h))
+
+pub setup-read-back : SetupReadBack
+unfolding readOf ordersOf
+setup-read-back m settings list room w records rest bytes z h enough =
+    let p = passed settings list room z in
+    let l = left-all m w settings (ordersOf settings list) rest (all-accepted settings mostOrders list bytes (p .fine)) h in
+    let n : readNumber m w (allSamples (ordersOf settings list)) (length records) ≡ 0 =
+    no-refusal m w (allSamples (ordersOf settings list)) (length records) (rest .good-map) (rest-sound m w (anyOrder settings) rest) (l .good)
+    (p .few) (omega (arith, l .count)) in
+    rw n (λ i. outcome 0 (l .world i) (l .count i) (filled (l .records i) records))

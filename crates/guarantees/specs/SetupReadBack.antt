@@ -1,0 +1,63 @@
+-- Document 02, Ask 6: demand 2's reading back, for a whole setup.
+use Prim.Native.Nat.{ℕ, _+_, _*_, _≤_}
+use mathlib.Core.Path.{_≡_}
+use mathlib.Core.Bool.{Bool, true, false, _&&_, _||_}
+use mathlib.Core.List.{List, [], _∷_, _++_}
+use lib.ListN.{length}
+use lib.Pow.{areBytes}
+use Rattle.bits.specs.Buffer.{filled}
+use Rattle.sizes.specs.Sizes.{recordSize}
+use Rattle.session.specs.State.{resting}
+use Rattle.run.specs.Reading.{World}
+use Rattle.reader.specs.Calls.{Outcome, outcome, readOf}
+use Rattle.order.specs.Order.{Order, order, isRead, runBytes}
+use Rattle.order.specs.Samples.{allSamples}
+use Rattle.setup.specs.Calls.{ordersOf, setupNumber}
+use Rattle.guarantees.specs.AtRest.{AtRest}
+use Rattle.guarantees.specs.Book.{clearOfConfiguration}
+use Rattle.guarantees.specs.ReadBack.{settingsLeft, banksLeft, recordsLeft}
+
+-- the session and the banks that one order leaves
+abbrev pub worldPast : List ℕ → World → Order → World
+worldPast m w o = record {
+  session = resting false (settingsLeft (isRead o) (w .session .settings) (runBytes o));
+  banks = banksLeft m (isRead o) (w .banks) (runBytes o);
+}
+
+-- those that several orders leave, one after the other
+unfoldable pub worldLeft : List ℕ → World → List Order → World
+worldLeft m w [] = w
+worldLeft m w (o ∷ os) = worldLeft m (worldPast m w o) os
+
+-- their records: one for each byte of each order, in order
+unfoldable pub setupRecords : List ℕ → World → List Order → List ℕ
+setupRecords m w [] = []
+setupRecords m w (o ∷ os) = recordsLeft m (isRead o) (w .banks) (w .session .settings) (runBytes o) ++ setupRecords m (worldPast m w o) os
+
+unfoldable pub setupBytes : List Order → ℕ
+setupBytes [] = 0
+setupBytes (o ∷ os) = o .count + setupBytes os
+
+-- no order but the last writes 0x0000 or 0x0001
+unfoldable pub configuresLast : List Order → Bool
+configuresLast [] = true
+configuresLast (o ∷ []) = true
+configuresLast (o ∷ p ∷ os) = (isRead o || clearOfConfiguration (runBytes o)) && configuresLast (p ∷ os)
+
+-- an order with these settings: to be at rest for a list looks at nothing else of it
+abbrev pub anyOrder : ℕ → Order
+anyOrder settings = order 0 settings 0 0 []
+
+-- What reading a whole setup leaves.
+abbrev pub setupBackOf : List ℕ → World → List Order → List ℕ → Outcome
+setupBackOf m w os records = outcome 0 (worldLeft m w os) (setupBytes os) (filled (setupRecords m w os) records)
+
+-- For any good map, any list of bytes to which the call gives 0 with some room and of which no order but the last writes 0x0000 or
+-- 0x0001, any session at rest with the same settings and banks of n bytes, and room for a record a byte: reading the whole recording
+-- in one call is done, and leaves what the orders leave one after the other.
+abbrev pub SetupReadBack : Type 0
+SetupReadBack =
+    (m : List ℕ) (settings : ℕ) (list : List ℕ) (room : ℕ) (w : World) (records : List ℕ)
+    → AtRest m w (anyOrder settings) → areBytes list ≡ true → setupNumber settings list room ≡ 0
+    → configuresLast (ordersOf settings list) ≡ true → recordSize * setupBytes (ordersOf settings list) ≤ length records
+    → readOf m w (allSamples (ordersOf settings list)) records ≡ setupBackOf m w (ordersOf settings list) records

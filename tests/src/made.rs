@@ -1,0 +1,58 @@
+//! Calls that make something in a lent buffer, by both sides: the number, the
+//! length, and every byte of lent memory afterwards are compared.
+
+use std::cell::RefCell;
+
+use crate::guarded::{Against, Guarded};
+use crate::second::Answer;
+
+/// What the length holds before a call, so that one that is not written is seen.
+const NOT_WRITTEN: u64 = 0xDEAD_BEEF_DEAD_BEEF;
+
+/// The most bytes that are lent as one piece.
+const LARGEST: usize = 1 << 17;
+
+/// The second implementation's answer and all lent memory after it, or how the
+/// library differs from that.
+pub type Agreed<const N: usize> = Result<(Answer, [Vec<u8>; N]), String>;
+
+/// A call on these lent bytes by the second implementation and, if it has the
+/// call, by the library, in memory against an inaccessible page.
+pub fn agreed<const N: usize>(
+    lent: [&[u8]; N],
+    second: impl FnOnce([&mut [u8]; N]) -> Answer,
+    product: impl FnOnce([&mut [u8]; N], &mut u64) -> Option<u32>,
+) -> Agreed<N> {
+    thread_local! {
+        static MEMORY: RefCell<([Guarded; 3], Guarded)> =
+            RefCell::new(([(); 3].map(|()| Guarded::new(LARGEST)), Guarded::new(8)));
+    }
+    let mut expected = lent.map(<[u8]>::to_vec);
+    let answer = second(expected.each_mut().map(Vec::as_mut_slice));
+    MEMORY.with_borrow_mut(|(memory, length)| {
+        let even = lent.iter().map(|bytes| bytes.len()).sum::<usize>().is_multiple_of(2);
+        let against = if even { Against::PageBefore } else { Against::PageAfter };
+        let mut memory = memory.iter_mut();
+        let mut found =
+            lent.map(|bytes| memory.next().expect("three pieces are enough").hold(bytes, against));
+        let length = length.hold_number(NOT_WRITTEN, against);
+        let Some(number) = product(found.each_mut().map(|piece| &mut **piece), length) else {
+            return Ok(());
+        };
+        let told = (u32::from(answer.number), answer.count as u64);
+        if (number, *length) != told {
+            return Err(format!(
+                "the library gave {:?} for {told:?} on {lent:02X?}",
+                (number, *length)
+            ));
+        }
+        match (0..N).find(|&i| found[i] != expected[i]) {
+            None => Ok(()),
+            Some(i) => Err(format!(
+                "the library left {:02X?} for {:02X?} in piece {i} of {lent:02X?}",
+                found[i], expected[i]
+            )),
+        }
+    })?;
+    Ok((answer, expected))
+}
