@@ -309,6 +309,66 @@ static void check_convert(void)
           "a reserved flag is refused 2");
 }
 
+/* A list of mending put back into the map that was mended, entry by entry. */
+static void put_back(uint8_t *mended, size_t head, const uint8_t *list, uint64_t length)
+{
+    uint64_t at;
+
+    for (at = 0; at < length; at += COUPLINGNUT_ALTERED_SIZE) {
+        memcpy(mended + head + 3 * (size_t)(list[at] * 256 + list[at + 1]), list + at + 2, 3);
+    }
+}
+
+/* Four slips, in a map of version 2 with its flag set: at 0x0000, at 0x0003, in the vendor bytes, and at a free place. */
+static void check_mend(void)
+{
+    static const uint8_t altered[] = {
+        0, 0x00, 2, 0, 0,  0, 0x02, 4, 1, 2,  0, 0x03, 7, 8, 9,  0, 0x0C, 1, 0, 0x65,
+    };
+    uint8_t good[60];
+    uint8_t typed[60];
+    uint8_t mended[60];
+    uint8_t list[80];
+    uint64_t length = 12345;
+
+    check(couplingnut_to_version_2(map, sizeof map, good, sizeof good, &length) == COUPLINGNUT_DONE, "a map to be mended is made");
+    good[5] = 1;
+    memcpy(mended, good, 54);
+    memset(list, PATTERN, sizeof list);
+    check(couplingnut_mend(mended, 54, list, sizeof list, &length) == COUPLINGNUT_DONE && length == 0 && list[0] == PATTERN &&
+              memcmp(mended, good, 54) == 0,
+          "a good map is left as it was, with an empty list");
+    memcpy(typed, good, 54);
+    memcpy(typed + 6, altered + 2, 3);
+    memcpy(typed + 6 + 3 * 0x02, altered + 7, 3);
+    memcpy(typed + 6 + 3 * 0x03, altered + 12, 3);
+    memcpy(typed + 6 + 3 * 0x0C, altered + 17, 3);
+    memcpy(mended, typed, 54);
+    check(couplingnut_mend(mended, 54, list, sizeof altered - 1, &length) == COUPLINGNUT_SHORT_RECORDS && length == 0 &&
+              memcmp(mended, typed, 54) == 0 && list[0] == PATTERN,
+          "a list one byte short is refused 6, and nothing is written");
+    check(couplingnut_mend(mended, 54, list, sizeof altered, &length) == COUPLINGNUT_DONE && length == sizeof altered &&
+              memcmp(list, altered, sizeof altered) == 0 && list[sizeof altered] == PATTERN,
+          "four slips are listed by rising address, as they were");
+    check(couplingnut_map_test(mended, 54) == COUPLINGNUT_DONE && mended[5] == 1, "the mended map passes the map test, with its flag");
+    check(mended[6 + 3 * 0x02] == 0 && mended[6 + 3 * 0x03] == 1 && mended[6 + 3 * 0x03 + 2] == 9 && mended[6 + 3 * 0x0C + 2] == 0x56,
+          "control at a free place becomes blank, a read-only place keeps its default, and a vendor byte does not");
+    put_back(mended, 6, list, length);
+    check(memcmp(mended, typed, 54) == 0, "the list gives the old map back");
+    memset(mended + 6 + 3 * 0x04, 0xFF, 6);
+    check(couplingnut_mend(mended, 54, list, 0, &length) == COUPLINGNUT_BAD_PRODUCT && length == 0,
+          "product number 0xFFFF is refused 18, before 6");
+    mended[5] = 2;
+    check(couplingnut_mend(mended, 54, list, 0, &length) == COUPLINGNUT_BAD_MAP_FORM && length == 0,
+          "a reserved flag is refused 2, before 18");
+}
+
+/* No call of this library gives these. */
+static int not_given(uint32_t number)
+{
+    return number == 12 || number == 16 || number == 17;
+}
+
 static void check_words(void)
 {
     const char *none = couplingnut_message(12);
@@ -316,8 +376,8 @@ static void check_words(void)
     uint32_t j;
     int unlike = 1;
 
-    for (i = 0; i <= 15; i++) {
-        if (i == 12) {
+    for (i = 0; i <= 18; i++) {
+        if (not_given(i)) {
             continue;
         }
         unlike = unlike && strcmp(couplingnut_message(i), none) != 0;
@@ -335,6 +395,7 @@ int main(void)
     check_read();
     check_next();
     check_convert();
+    check_mend();
     check_map();
     check_send();
     check_joined();

@@ -40,7 +40,8 @@
  * and last, of a write with effect 1 or 2, the bits in which the register's byte, or its buffer's, differs from the one before it;
  * 0 in all others.
  *
- * Each call gives back a number, the lowest that applies (of the converter 13 before 11); they are listed below.
+ * Each call gives back a number, the lowest that applies (of the converter 13 before 11, of mending 18 before 6); they are listed
+ * below.
  */
 #ifndef COUPLINGNUT_H
 #define COUPLINGNUT_H
@@ -67,7 +68,7 @@ enum couplingnut_number {
     COUPLINGNUT_BAD_MAP_ENTRY = 3,      /* a register of the map breaks a rule */
     COUPLINGNUT_BAD_BANK = 4,           /* a bank isn't n bytes */
     COUPLINGNUT_BAD_SAMPLES = 5,        /* more than 65,536 samples, or one with any of bits 4 to 7 set */
-    COUPLINGNUT_SHORT_RECORDS = 6,      /* the records need more bytes than are lent */
+    COUPLINGNUT_SHORT_RECORDS = 6,      /* the records, or the list of what mending alters, need more bytes than are lent */
     COUPLINGNUT_BAD_ORDER = 7,          /* the direction is above 1, or the settings number above 7 */
     COUPLINGNUT_BAD_COUNT = 8,          /* the count isn't 1 to 1,000, or the data isn't as long as it says (a read has none) */
     COUPLINGNUT_BAD_START = 9,          /* the start address is above 0x7FFF */
@@ -75,7 +76,8 @@ enum couplingnut_number {
     COUPLINGNUT_SHORT_OUT = 11,         /* the outgoing buffer is too short */
     COUPLINGNUT_FLAG_LOST = 13,         /* a map with a flag set has no version 1 */
     COUPLINGNUT_BAD_LIST = 14,          /* a list ends inside an order, or has one of another form, or more than 64 */
-    COUPLINGNUT_LONG_SETUP = 15         /* the orders of a list give more than 65,536 samples in total */
+    COUPLINGNUT_LONG_SETUP = 15,        /* the orders of a list give more than 65,536 samples in total */
+    COUPLINGNUT_BAD_PRODUCT = 18        /* the product number of a map to be mended is 0x0000 or 0xFFFF */
 };
 
 /* How many bytes a record has, and how many hold the records of so many samples, whatever they are. */
@@ -84,6 +86,9 @@ enum { COUPLINGNUT_RECORD_SIZE = 7 };
 
 /* No map has more bytes. */
 enum { COUPLINGNUT_MOST_MAP = 24582 };
+
+/* How many bytes an altered entry has in mending's list; a map of n registers never needs more than n times as many. */
+enum { COUPLINGNUT_ALTERED_SIZE = 5 };
 
 /* No call of the reader takes more samples. */
 enum { COUPLINGNUT_MOST_READ = 65536 };
@@ -153,6 +158,17 @@ uint32_t couplingnut_to_version_1(const uint8_t *map, size_t map_length, uint8_t
 COUPLINGNUT_NOT_NULL
 uint32_t couplingnut_to_version_2(const uint8_t *map, size_t map_length, uint8_t *out, size_t out_length, uint64_t *length);
 
+/*
+ * Corrects a map of right form in its own bytes, so that the map test accepts it: 0, 2, 18 or 6, in this order. Places that are fixed get
+ * what is asked of them; there the read-only ones but the vendor bytes, and the scratch pad, keep their defaults. Elsewhere unknown kinds
+ * and control entries become blank, and masks and defaults that must be 0 are cleared. The head, flags included, is never altered. Each
+ * entry altered stands at the start of list, by rising address: 2 bytes, the address, high byte first, and the 3 bytes that it had;
+ * *length says how many bytes that is, and the rest of list is unchanged. So a good map stays as it was, with *length 0, and the list
+ * tells how to get the old map back. The rules are those of the map test: another chip's map is bent to them.
+ */
+COUPLINGNUT_NOT_NULL
+uint32_t couplingnut_mend(uint8_t *map, size_t map_length, uint8_t *list, size_t list_length, uint64_t *length);
+
 /* Puts the default of each register in both banks, and the opened session into *session: 0, or 2 to 4. */
 COUPLINGNUT_NOT_NULL
 uint32_t couplingnut_open(const uint8_t *map, size_t map_length, couplingnut_session *session, uint8_t *active,
@@ -195,7 +211,7 @@ COUPLINGNUT_NOT_NULL
 uint32_t couplingnut_send_setup(uint64_t settings, const uint8_t *list, size_t list_length, uint8_t *out, size_t out_length,
                                 uint64_t *samples);
 
-/* What a number says and what to do, in words, for 0 to 15 but 12; never null. Its code is host/message.c. */
+/* What a number says and what to do, in words, for 0 to 18 but 12, 16 and 17; never null. Its code is host/message.c. */
 const char *couplingnut_message(uint32_t number);
 
 /* An order to the sender. */

@@ -15,7 +15,8 @@ static const char *const messages[] = {
     "a bank is not as long as the map has registers; lend two banks of as many bytes",
     "a sample has one of bits 4 to 7 set, or there are more than 65,536 in a call; record the four lines on bits 0 to 3 "
     "and clear the rest",
-    "the records need more room than was lent; lend seven bytes for every three samples, and seven more",
+    "the records, or the list of what mending alters, need more room than was lent; lend seven bytes for every three samples, and "
+    "seven more, or for a list five for each register of the map",
     "the direction is above 1, or the settings number above 7; 0 writes and 1 reads, and settings are 1, 2 and 4, added",
     "the count is not 1 to 1,000, or the data is not as long as it says; split the run, and give a read no data",
     "the start address is above 0x7FFF; addresses have 15 bits",
@@ -27,6 +28,9 @@ static const char *const messages[] = {
     "the list ends inside an order, an order of it has a length below 6 or another version than 1, or there are more than 64; "
     "write the lengths again, or cut the list in two",
     "the orders give more than 65,536 samples in total; cut the list in two",
+    not_given,
+    not_given,
+    "the product number of the map is 0x0000 or 0xFFFF, which mending can't guess; put the right one at 0x0004 (low byte) and 0x0005",
 };
 
 const char *couplingnut_message(uint32_t number)

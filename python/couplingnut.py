@@ -20,8 +20,9 @@ import ctypes
 import os
 from typing import NamedTuple
 
-__all__ = ['Record', 'Refused', 'Session', 'Settings', 'SettingsInUse', 'banks', 'listed', 'map_test', 'message', 'next_record', 'open',
-           'read', 'send', 'send_setup', 'to_version_1', 'to_version_2', 'WRITE', 'READ', 'LSB_FIRST', 'ASCENDING', 'SINGLE_INSTRUCTION']
+__all__ = ['Altered', 'Record', 'Refused', 'Session', 'Settings', 'SettingsInUse', 'banks', 'listed', 'map_test', 'mend', 'message',
+           'next_record', 'open', 'read', 'send', 'send_setup', 'to_version_1', 'to_version_2', 'WRITE', 'READ', 'LSB_FIRST', 'ASCENDING',
+           'SINGLE_INSTRUCTION']
 
 # The direction of an order, and what its settings number is the sum of.
 WRITE, READ = 0, 1
@@ -31,6 +32,8 @@ SESSION_SIZE = 19
 RECORD_SIZE = 7
 MOST_SAMPLES = 48003  # No order gives more.
 MOST_MAP = 24582  # No map is longer.
+ALTERED_SIZE = 5  # The bytes of an altered entry in mending's list.
+MOST_ALTERED = 8192  # No map has more registers.
 MOST_SETUP = 65536  # No list of orders gives more.
 LISTED_VERSION = 1  # The version of the form of an order in a list.
 PHASES = ('rest', 'instruction', 'data')
@@ -52,7 +55,7 @@ def _declared(library):
     reading = opening + [given, size, lent, size, told]
     converting = [given, size, lent, size, told]
     for name, types in [('map_test', [given, size]), ('to_version_1', converting), ('to_version_2', converting),
-                        ('open', opening), ('read', reading), ('next_record', reading + [told]),
+                        ('mend', [lent, size, lent, size, told]), ('open', opening), ('read', reading), ('next_record', reading + [told]),
                         ('send', [wide, wide, wide, wide, given, size, lent, size, told]),
                         ('send_setup', [wide, given, size, lent, size, told])]:
         call = getattr(library, 'couplingnut_' + name)
@@ -101,6 +104,14 @@ class Record(NamedTuple):
     def __str__(self):
         """The line that busread prints."""
         return f'{"?WRC"[self.kind]} {self.address:04X} {self.byte3:02X} {self.byte4:02X} {self.byte5} {self.moved:02X}'
+
+
+class Altered(NamedTuple):
+    """An entry that mending altered: its address, and what it was before."""
+    address: int
+    kind: int
+    mask: int
+    default: int
 
 
 class Session:
@@ -234,6 +245,17 @@ def to_version_1(map, room=MOST_MAP):
 def to_version_2(map, room=MOST_MAP):
     """A map of either version as one of version 2, with flags 0 if it has none. Refused: 2, 3, 11."""
     return _converted(_LIBRARY.couplingnut_to_version_2, map, room)
+
+
+def mend(map, room=MOST_ALTERED):
+    """A map corrected so that the map test accepts it, and a list of `Altered`, by rising address. The map handed in stays as it was.
+
+    `room` is how many altered entries there is room for. Refused: 2; 18, where the product number is 0x0000 or 0xFFFF; 6.
+    """
+    mended, listed_bytes, length = bytearray(map), bytearray(ALTERED_SIZE * room), ctypes.c_uint64()
+    _accept(_LIBRARY.couplingnut_mend(*_lent(mended), *_lent(listed_bytes), ctypes.byref(length)))
+    rows = (listed_bytes[at:at + ALTERED_SIZE] for at in range(0, length.value, ALTERED_SIZE))
+    return bytes(mended), [Altered(row[0] * 256 + row[1], *row[2:]) for row in rows]
 
 
 def banks(map):

@@ -51,6 +51,26 @@ class Couplingnut(unittest.TestCase):
             self.assert_refused(2, call, MAP[:-1])
             self.assert_refused(3, call, MAP[:5] + b'\1' + MAP[6:])
 
+    def test_mend(self):
+        """a map mended, and what it was before"""
+        for good in (MAP, cn.to_version_2(MAP)[:5] + b'\x01' + MAP[5:]):
+            head = len(good) - 3 * 16
+            self.assertEqual(cn.mend(good, room=0), (good, []))
+            slips = [cn.Altered(0x0001, 4, 0xFF, 0), cn.Altered(0x0002, 9, 1, 2), cn.Altered(0x000D, 0, 0, 0)]
+            typed = bytearray(good)
+            for slip in slips:
+                typed[head + 3 * slip.address:head + 3 * slip.address + 3] = slip[1:]
+            mended, altered = cn.mend(typed)
+            cn.map_test(mended)
+            self.assertEqual(altered, slips)
+            self.assertEqual(mended, good[:head + 6] + bytes(3) + good[head + 9:])
+            self.assertEqual(cn.mend(typed, room=3), (mended, altered))
+            self.assert_refused(6, cn.mend, typed, room=2)
+            typed[head + 3 * 4:head + 3 * 6] = bytes(6)
+            self.assert_refused(18, cn.mend, typed, room=0)
+            self.assert_refused(2, cn.mend, typed[:-1], room=0)
+        self.assert_refused(2, cn.mend, b'')
+
     def test_either_version(self):
         """opening and reading go alike with either version"""
         left = []
@@ -205,7 +225,7 @@ class Couplingnut(unittest.TestCase):
 
     def test_message(self):
         """each number has words of its own"""
-        given = [*range(12), 13, 14, 15]
+        given = [*range(12), 13, 14, 15, 18]
         self.assertEqual(len({cn.message(number) for number in given + [2 ** 32 - 1]}), len(given) + 1)
 
 

@@ -7,13 +7,14 @@ use std::path::{Path, PathBuf};
 
 /// The calls that document 02 asks for: the cfg under which they are declared,
 /// the file of their tests, and their names.
-const REQUESTED: [(&str, &str, &[&str]); 2] = [
+const REQUESTED: [(&str, &str, &[&str]); 3] = [
     (
         "host_converter",
         "tests/converter.rs",
         &["couplingnut_to_version_1", "couplingnut_to_version_2"],
     ),
     ("host_setup", "tests/setup.rs", &["couplingnut_send_setup"]),
+    ("host_mend", "tests/mend.rs", &["couplingnut_mend"]),
 ];
 
 fn main() {

@@ -10,7 +10,7 @@ use crate::library;
 use crate::made::{agreed, Agreed};
 use crate::second::sender::Order;
 use crate::second::session::Session;
-use crate::second::{converter, map, reader, sender, setup, Answer};
+use crate::second::{converter, map, mend, reader, sender, setup, Answer};
 
 /// The number of a map.
 pub fn map_test(bytes: &[u8]) -> u8 {
@@ -105,6 +105,23 @@ pub fn try_send_setup(settings: u64, list: &[u8], out: &[u8]) -> Agreed<2> {
         library::setup::send_setup(settings, list, out, samples)
     };
     agreed([list, out], second, product)
+}
+
+/// The map and the list take what the call left there.
+pub fn mend(map: &mut [u8], list: &mut [u8]) -> Answer {
+    let left = try_mend(map, list);
+    let (answer, lent) = left.unwrap_or_else(|difference| panic!("{difference}"));
+    map.copy_from_slice(&lent[0]);
+    list.copy_from_slice(&lent[1]);
+    answer
+}
+
+/// The same, which tells a difference.
+pub fn try_mend(map: &[u8], list: &[u8]) -> Agreed<2> {
+    let second = |[map, list]: [&mut [u8]; 2]| mend::mend(map, list);
+    let product =
+        |[map, list]: [&mut [u8]; 2], length: &mut u64| library::mend::mend(map, list, length);
+    agreed([map, list], second, product)
 }
 
 /// The answer; the buffer, which is lent last, takes what the call left there.

@@ -5,6 +5,7 @@
 #![allow(unsafe_code)]
 
 pub mod converter;
+pub mod mend;
 pub mod setup;
 
 pub use calls::{map_test, next_record, open, read, send_into};

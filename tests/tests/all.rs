@@ -11,6 +11,7 @@ mod host;
 mod known_results;
 mod layout;
 mod map_test;
+mod mend;
 mod next_record;
 mod reader;
 mod refusals;

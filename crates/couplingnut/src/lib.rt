@@ -3,6 +3,7 @@
 ghost use mathlib.Core.Path.{_≡_};
 ghost use Rattle.maptest.specs.MapTest.{mapNumber};
 ghost use Rattle.convert.specs.Convert.{converting, convertOf};
+ghost use Rattle.mend.specs.Mend.{mending, mendOf};
 ghost use Rattle.registers.specs.Banks.{banks};
 ghost use Rattle.order.specs.Order.{order};
 ghost use Rattle.sender.specs.Calls.{sending, sendOf};
@@ -11,6 +12,7 @@ ghost use Rattle.couplingnut.specs.Calls.{opening, openOf, outcome, read
 use convert::to_version_1;
 use convert::to_version_2;
 use maptest::map_test;
+use mend::mend;
 use nextrecord::next_record;
 use reader::open;
 use reader::read;
@@ -48,6 +50,17 @@ pub extern "C" fn couplingnut_to_version_2(map: &[u8], out: &mut [u8], length: &
     let flagged = to_version_2(map, out);
     *length = flagged.length as u64;
     flagged.number as u32
+}
+
+// Mends a map in its own bytes, puts each entry that it alters at the start of the list, as it was, and says how many bytes that is. A
+// refusal, 2, 18 or 6, says 0 bytes and leaves the map and the list as they were.
+#[no_mangle]
+pub extern "C" fn couplingnut_mend(map: &mut [u8], list: &mut [u8], length: &mut u64) -> u32
+    ensures { λ r. ⌜ mending r (now (length .exit)) (now (map .exit)) (now (list .exit)) ≡ mendOf (now (map .entry)) (now (list .entry)) ⌝ }
+{
+    let mended = mend(map, list);
+    *length = mended.length as u64;
+    mended.number as u32
 }
 
 // Puts each default in both banks. The opened session is handed back always; a refusal, 2 to 4, leaves the banks as they were.

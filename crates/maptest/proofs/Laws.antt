@@ -39,7 +39,8 @@ map-number-most m =
     (λ t. omega arith)
 
 module _ (m : List ℕ) (good : mapNumber m ≡ 0) where
-  passed : (every (formTests m) ≡ true) × ((entriesGood m 0 (countOf m) && every (furtherTests m)) ≡ true)
+  -- its form and its rules have passed
+  pub passed : (every (formTests m) ≡ true) × ((entriesGood m 0 (countOf m) && every (furtherTests m)) ≡ true)
   unfolding mapNumber
   passed = both-pass (every (formTests m)) (entriesGood m 0 (countOf m) && every (furtherTests m)) good
 

@@ -73,14 +73,26 @@ entriesGood m a (suc k) = entryGood a (registerAt m a) && entriesGood m (a + 1) 
 abbrev pub productOf : List ℕ → ℕ
 productOf m = registerAt m 0x0005 .default * 256 + registerAt m 0x0004 .default
 
+abbrev pub productGood : List ℕ → Bool
+productGood m = not (eqb (productOf m) 0x0000) && not (eqb (productOf m) 0xFFFF)
+
+-- the vendor bytes, and the mask of scratch
+abbrev pub vendorLow : ℕ
+vendorLow = 0x56
+
+abbrev pub vendorHigh : ℕ
+vendorHigh = 0x04
+
+abbrev pub scratchMask : ℕ
+scratchMask = 0xFF
+
 -- The further rules on single bytes: the vendor bytes, the product number, and the mask of scratch.
 abbrev pub furtherTests : List ℕ → List Bool
 furtherTests m =
-    eqb (registerAt m 0x000C .default) 0x56
-    ∷ eqb (registerAt m 0x000D .default) 0x04
-    ∷ not (eqb (productOf m) 0x0000)
-    ∷ not (eqb (productOf m) 0xFFFF)
-    ∷ eqb (registerAt m 0x000A .mask) 0xFF
+    eqb (registerAt m 0x000C .default) vendorLow
+    ∷ eqb (registerAt m 0x000D .default) vendorHigh
+    ∷ productGood m
+    ∷ eqb (registerAt m 0x000A .mask) scratchMask
     ∷ []
 
 -- The number of the map test: the lowest that applies.

@@ -3,12 +3,13 @@ ghost use mathlib.Core.Path.{_≡_};
 ghost use Prim.Native.Nat.{_<_, _-_};
 ghost use Rattle.bits.specs.Tests.{every};
 ghost use Rattle.regmap.specs.Format.{countOf, registerAt};
-ghost use Rattle.maptest.specs.MapTest.{formTests, Formed, kindRule, places, entriesGood, furtherTests, mapNumber};
+ghost use Rattle.maptest.specs.MapTest.{formTests, Formed, kindRule, places, entriesGood, productGood, furtherTests, mapNumber};
 
 mod places;
 
 pub use places::FREE;
 use places::PLACES;
+pub use places::SCRATCH_MASK;
 use places::place_good;
 pub use places::place_kind;
 use regmap::BLANK;
@@ -28,7 +29,7 @@ use regmap::flags;
 use regmap::head;
 
 // Whether the head is right, with no reserved flag, and the slice as long as the map.
-fn form_good(map: &[u8]) -> bool
+pub fn form_good(map: &[u8]) -> bool
     ensures { λ r. ⌜ r ≡ every (formTests (now (map .entry))) ⌝ }
 {
     if map.len() < HEAD_SIZE {
@@ -99,20 +100,27 @@ fn others_good(map: &[u8]) -> bool
     good
 }
 
+// Whether the product number is neither 0x0000 nor 0xFFFF.
+pub fn product_good(map: &[u8]) -> bool
+    requires { ⌜ Formed (now map) ⌝ }
+    ensures { λ r. ⌜ r ≡ productGood (now (map .entry)) ⌝ }
+{
+    let low = register_at(map, 0x0004).default as u16;
+    let high = register_at(map, 0x0005).default as u16;
+    let product = high * 256 + low;
+    (product != 0x0000) & (product != 0xFFFF)
+}
+
 // Whether the vendor bytes, the product number and the mask of scratch are right.
 fn further_good(map: &[u8]) -> bool
     requires { ⌜ Formed (now map) ⌝ }
     ensures { λ r. ⌜ r ≡ every (furtherTests (now (map .entry))) ⌝ }
 {
     let vendor = b"\x56\x04";
-    let low = register_at(map, 0x0004).default as u16;
-    let high = register_at(map, 0x0005).default as u16;
-    let product = high * 256 + low;
     (register_at(map, 0x000C).default == vendor[0])
         & (register_at(map, 0x000D).default == vendor[1])
-        & (product != 0x0000)
-        & (product != 0xFFFF)
-        & (register_at(map, 0x000A).mask == 0xFF)
+        & product_good(map)
+        & (register_at(map, 0x000A).mask == SCRATCH_MASK)
 }
 
 // Whether a map may be used: 0, or 2 where its form is wrong, or 3 where an entry breaks a rule.

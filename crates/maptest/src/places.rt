@@ -9,6 +9,9 @@ use regmap::READ_ONLY;
 // A place where any kind but control may stand.
 pub const FREE: u8 = 9;
 
+// The mask of scratch.
+pub const SCRATCH_MASK: u8 = 0xFF;
+
 // The places that ask for a kind: 0x0000 to 0x000F.
 pub const PLACES: usize = 16;
 

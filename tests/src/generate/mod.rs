@@ -4,6 +4,7 @@
 
 pub mod calls;
 pub mod maps;
+pub mod mends;
 pub mod orders;
 pub mod random;
 pub mod sessions;

@@ -76,7 +76,7 @@ impl<'a> RegisterMap<'a> {
 
 /// What number 2 looks at: length, version, n and flags, and bytes neither
 /// missing nor left over. Gives the flags and the entries.
-fn parts_of(bytes: &[u8]) -> Option<(u8, &[[u8; 3]])> {
+pub(super) fn parts_of(bytes: &[u8]) -> Option<(u8, &[[u8; 3]])> {
     let &[length_high, length_low, version, count_high, count_low, ref rest @ ..] = bytes else {
         return None;
     };
@@ -97,14 +97,19 @@ fn parts_of(bytes: &[u8]) -> Option<(u8, &[[u8; 3]])> {
 /// What number 3 looks at: the rule of each entry, and what each place asks.
 fn entries_stand(entries: &[[u8; 3]]) -> bool {
     let (places, rest) = entries.split_at(PLACES);
-    let product = u16::from_be_bytes([places[5][2], places[4][2]]);
     places
         .iter()
         .enumerate()
         .all(|(address, &entry)| entry_stands(entry) && place_stands(address, entry))
-        && product != 0x0000
-        && product != 0xFFFF
+        && product_stands(entries)
         && rest.iter().all(|&entry| entry_stands(entry) && entry[0] != CONTROL)
+}
+
+/// Whether the product number, whatever the kinds of its two registers, is one
+/// that a map may have.
+pub(super) fn product_stands(entries: &[[u8; 3]]) -> bool {
+    let product = u16::from_be_bytes([entries[0x0005][2], entries[0x0004][2]]);
+    product != 0x0000 && product != 0xFFFF
 }
 
 fn entry_stands([kind, mask, default]: [u8; 3]) -> bool {

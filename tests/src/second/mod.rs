@@ -13,12 +13,14 @@
 //! | `report` | The bench program |
 //! | `converter` | document 02, Ask 3 |
 //! | `setup` | document 02, Ask 6 |
+//! | `mend` | document 02, Ask 12 |
 //!
 //! The call for the next record, in `reader`, is the library's own: document 01
 //! does not have it.
 
 pub mod converter;
 pub mod map;
+pub mod mend;
 pub mod reader;
 pub mod registers;
 pub mod report;
