@@ -1,9 +1,10 @@
 /*
- * bussend: the samples of one read or write run, or of a whole list of them, one byte each, on standard output.
+ * bussend: the samples of one read or write run, of a whole list of them, or of the fewest that write a table of registers, one byte
+ * each, on standard output.
  *
- * Exit status: 0 done; 1 the sender refused the order or the list; 2 the command line or a line of the list is wrong; 3 the list could
- * not be read or the samples not written. Standard error says which; with 1 and 2 nothing was written. COUPLINGNUT_VERSION comes from
- * the build.
+ * Exit status: 0 done; 1 the order, the list or the table was refused; 2 the command line or a line of the list or table is wrong; 3 it
+ * could not be read or the samples not written. Standard error says which; with 1 and 2 nothing was written. COUPLINGNUT_VERSION comes
+ * from the build.
  */
 #include "couplingnut.h"
 
@@ -19,9 +20,11 @@ enum { DONE = 0, REFUSED = 1, WRONG_WORDS = 2, FAILED = 3 };
 static const char usage[] = "usage: bussend write [--lsb] [--ascending] [--single] START [BYTE..]\n"
                             "       bussend read [--lsb] [--ascending] [--single] START COUNT\n"
                             "       bussend --list [--lsb] [--ascending] [--single] FILE\n"
+                            "       bussend --fewest [--lsb] [--ascending] TABLE\n"
                             "       bussend --help | --version\n"
                             "Numbers are decimal, or hexadecimal after 0x. The samples go to standard output.\n"
-                            "A line of FILE is an order, write START [BYTE..] or read START COUNT; # begins a comment.\n";
+                            "A line of FILE is an order, write START [BYTE..] or read START COUNT; # begins a comment.\n"
+                            "A line of TABLE is a register and its byte, ADDRESS BYTE; the fewest streaming writes are sent.\n";
 
 static const char version[] = "bussend " COUPLINGNUT_VERSION "\n";
 
@@ -35,13 +38,13 @@ static const struct {
     {"--single", COUPLINGNUT_SINGLE_INSTRUCTION},
 };
 
-/* The line that is read of the list, and the list's name, null where the words are those of the command line. */
+/* The line that is read of the list or table, and its name, null where the words are those of the command line. */
 static struct {
     const char *file;
     size_t line;
 } place;
 
-/* Begins a line of standard error: who speaks, and of which line of the list. */
+/* Begins a line of standard error: who speaks, and of which line. */
 static void say_place(void)
 {
     fprintf(stderr, "bussend: ");
@@ -60,7 +63,7 @@ static bool wrong(const char *name, const char *word, const char *advice)
     return false;
 }
 
-/* Says what the command line or a line of the list lacks or has too much of. */
+/* Says what the command line or a line lacks or has too much of. */
 static bool wrong_words(const char *what)
 {
     say_place();
@@ -108,20 +111,26 @@ static bool read_number(const char *name, const char *word, uint64_t *number)
     return true;
 }
 
+/* Reads a word as a byte. */
+static bool read_byte(const char *word, uint8_t *byte)
+{
+    uint64_t number;
+
+    if (!read_number("BYTE", word, &number)) {
+        return false;
+    }
+    *byte = (uint8_t)number;
+    return number <= 255 || wrong("BYTE", word, "give a byte, 0 to 255");
+}
+
 /* Reads the bytes of a write: each word is one. */
 static bool read_bytes(char **words, uint8_t *bytes, struct couplingnut_order *order)
 {
-    uint64_t byte;
-
     order->data = bytes;
     for (; *words != NULL; words++) {
-        if (!read_number("BYTE", *words, &byte)) {
+        if (!read_byte(*words, bytes + order->data_length++)) {
             return false;
         }
-        if (byte > 255) {
-            return wrong("BYTE", *words, "give a byte, 0 to 255");
-        }
-        bytes[order->data_length++] = (uint8_t)byte;
     }
     order->count = order->data_length;
     return true;
@@ -221,7 +230,7 @@ static void *memory(void *old, size_t size)
     void *new = realloc(old, size);
 
     if (new == NULL) {
-        fprintf(stderr, "bussend: no memory for the list\n");
+        fprintf(stderr, "bussend: no memory for %s\n", place.file);
         exit(FAILED);
     }
     return new;
@@ -257,27 +266,28 @@ static void part_words(char *line, char **words)
     *words = NULL;
 }
 
-/* Reads one line of a list, and adds its order if it has one. */
-static bool read_line(char *line, size_t length, struct setup *setup)
+/* What is done with the words of a line that has any; there are at most so many. */
+typedef bool line_reader(char **words, size_t most, void *into);
+
+/* Reads one line, and hands on its words if it has any. */
+static bool read_line(char *line, size_t length, line_reader *reader, void *into)
 {
-    struct couplingnut_order order = {0};
-    char **words = memory(NULL, (length / 2 + 2) * sizeof *words);
-    uint8_t *bytes = memory(NULL, length / 2 + 2);
+    size_t most = length / 2 + 1;
+    char **words = memory(NULL, (most + 1) * sizeof *words);
     bool good;
 
     if (memchr(line, '\0', length) != NULL) {
         good = wrong_words("a zero byte is no text");
     } else {
         part_words(line, words);
-        good = *words == NULL || (read_order(words, bytes, &order) && add_order(setup, &order));
+        good = *words == NULL || reader(words, most, into);
     }
     free(words);
-    free(bytes);
     return good;
 }
 
-/* Reads all lines of a list. */
-static int read_list(FILE *file, struct setup *setup)
+/* Reads all lines of an open file. */
+static int read_lines(FILE *file, line_reader *reader, void *into)
 {
     char *line = NULL;
     size_t room = 0;
@@ -286,7 +296,7 @@ static int read_list(FILE *file, struct setup *setup)
 
     while (good && (length = getline(&line, &room, file)) >= 0) {
         place.line++;
-        good = read_line(line, (size_t)length, setup);
+        good = read_line(line, (size_t)length, reader, into);
     }
     free(line);
     if (good && ferror(file)) {
@@ -294,6 +304,34 @@ static int read_list(FILE *file, struct setup *setup)
         return FAILED;
     }
     return good ? DONE : WRONG_WORDS;
+}
+
+/* Reads all lines of the file that a word names; - is standard input. */
+static int read_file(const char *name, line_reader *reader, void *into)
+{
+    FILE *file = strcmp(name, "-") == 0 ? stdin : fopen(name, "r");
+    int status;
+
+    if (file == NULL) {
+        fprintf(stderr, "bussend: %s could not be opened: %s\n", name, strerror(errno));
+        return FAILED;
+    }
+    place.file = name;
+    status = read_lines(file, reader, into);
+    place.line = 0;
+    fclose(file);
+    return status;
+}
+
+/* Adds the order of a line to the list. */
+static bool read_listed(char **words, size_t most, void *into)
+{
+    struct couplingnut_order order = {0};
+    uint8_t *bytes = memory(NULL, most);
+    bool good = read_order(words, bytes, &order) && add_order(into, &order);
+
+    free(bytes);
+    return good;
 }
 
 /* The line of the order that a number speaks of, 0 where it speaks of the whole list. The sender is asked which order it is. */
@@ -336,7 +374,6 @@ static int send_file(char **words)
 {
     struct setup setup = {0};
     uint64_t settings = 0;
-    FILE *file;
     int status;
 
     if (!read_options(&words, &settings)) {
@@ -346,18 +383,183 @@ static int send_file(char **words)
         wrong_words("--list has one FILE");
         return WRONG_WORDS;
     }
-    file = strcmp(words[0], "-") == 0 ? stdin : fopen(words[0], "r");
-    if (file == NULL) {
-        fprintf(stderr, "bussend: %s could not be opened: %s\n", words[0], strerror(errno));
-        return FAILED;
-    }
-    place.file = words[0];
-    status = read_list(file, &setup);
+    status = read_file(words[0], read_listed, &setup);
     if (status == DONE) {
         status = send_list(&setup, settings);
     }
-    fclose(file);
     free(setup.bytes);
+    return status;
+}
+
+/* A register of a table with its byte, and the line that it stands in. */
+struct row {
+    uint16_t address;
+    uint8_t byte;
+    size_t line;
+};
+
+/* The registers of a table, and the line of the one too many, if there is one. */
+struct table {
+    struct row *rows;
+    size_t count;
+    size_t room;
+    size_t over;
+};
+
+/* Adds the register of a line to the table. */
+static bool read_register(char **words, size_t most, void *into)
+{
+    struct table *table = into;
+    uint64_t address;
+    uint8_t byte;
+
+    (void)most;
+    if (words[1] == NULL || words[2] != NULL) {
+        return wrong_words("a line of a table is ADDRESS BYTE");
+    }
+    if (!read_number("ADDRESS", words[0], &address) || !read_byte(words[1], &byte)) {
+        return false;
+    }
+    if (address > UINT16_MAX) {
+        return wrong("ADDRESS", words[0], "give an address, up to 0x7FFF");
+    }
+    if (table->count == table->room) {
+        table->room = 2 * table->room + 64;
+        table->rows = memory(table->rows, table->room * sizeof *table->rows);
+    }
+    if (table->count == COUPLINGNUT_MOST_REGISTERS) {
+        table->over = place.line;
+    }
+    table->rows[table->count++] = (struct row){(uint16_t)address, byte, place.line};
+    return true;
+}
+
+/* By address, and at one address by line. */
+static int compare_rows(const void *one, const void *other)
+{
+    const struct row *a = one, *b = other;
+
+    if (a->address != b->address) {
+        return a->address < b->address ? -1 : 1;
+    }
+    return a->line < b->line ? -1 : 1;
+}
+
+/* Puts a table in order of addresses. A register that stands in it twice is told with both lines. */
+static bool sort_table(struct table *table)
+{
+    if (table->count != 0) {
+        qsort(table->rows, table->count, sizeof *table->rows, compare_rows);
+    }
+    for (size_t i = 1; i < table->count; i++) {
+        const struct row *row = table->rows + i;
+        if (row->address == row[-1].address) {
+            place.line = row->line;
+            say_place();
+            fprintf(stderr, "register 0x%04X stands in line %zu too\n", (unsigned)row->address, row[-1].line);
+            return false;
+        }
+    }
+    return true;
+}
+
+/* The first line with a register that may not be listed or is one too many, 0 where there is none. The library is asked which it is. */
+static size_t unlisted_line(const struct table *table)
+{
+    uint8_t out[COUPLINGNUT_FRAMES_SIZE(1)];
+    uint64_t length;
+    size_t line = table->over;
+
+    for (size_t i = 0; i < table->count; i++) {
+        const struct row *row = table->rows + i;
+        if (couplingnut_fewest_frames(0, &row->address, 1, &row->byte, 1, out, sizeof out, &length) != 0 &&
+            (line == 0 || row->line < line)) {
+            line = row->line;
+        }
+    }
+    return line;
+}
+
+/* The place after up to 64 orders of a list that begin at a place: a list that may be sent. */
+static size_t cut_list(const uint8_t *list, size_t from, size_t length)
+{
+    size_t at = from;
+
+    for (int orders = 0; orders < COUPLINGNUT_MOST_ORDERS && at < length; orders++) {
+        at += 2 + (size_t)(list[at] * 256 + list[at + 1]);
+    }
+    return at;
+}
+
+/*
+ * Sends orders, cut into lists of up to 64, as one recording. Those of 1,000 registers give at most 35 + 16 samples for each, 51,000:
+ * no list comes near its limit, and the room of one list is enough for all.
+ */
+static int send_lists(uint64_t settings, const uint8_t *list, size_t length)
+{
+    static uint8_t out[COUPLINGNUT_MOST_SETUP];
+    size_t sent = 0;
+    uint64_t samples;
+
+    for (size_t from = 0, end; from < length; from = end) {
+        uint32_t number;
+        end = cut_list(list, from, length);
+        number = couplingnut_send_list(settings, list + from, end - from, out + sent, sizeof out - sent, &samples);
+        if (number != 0) {
+            return refused(number);
+        }
+        sent += (size_t)samples;
+    }
+    return write_out("the samples", out, sent);
+}
+
+/* Makes the fewest orders of a table in order, and sends them. */
+static int send_fewest(uint64_t settings, const struct table *table)
+{
+    uint16_t *addresses = memory(NULL, (table->count + 1) * sizeof *addresses);
+    uint8_t *bytes = memory(NULL, table->count + 1);
+    static uint8_t list[COUPLINGNUT_FRAMES_SIZE(COUPLINGNUT_MOST_REGISTERS)];
+    uint64_t length;
+    uint32_t number;
+
+    for (size_t i = 0; i < table->count; i++) {
+        addresses[i] = table->rows[i].address;
+        bytes[i] = table->rows[i].byte;
+    }
+    number = couplingnut_fewest_frames(settings & COUPLINGNUT_ASCENDING, addresses, table->count, bytes, table->count, list,
+                                       sizeof list, &length);
+    free(addresses);
+    free(bytes);
+    if (number != 0) {
+        place.line = unlisted_line(table);
+        return refused(number);
+    }
+    return send_lists(settings, list, (size_t)length);
+}
+
+/* Sends the table that the words after --fewest name. */
+static int send_table(char **words)
+{
+    struct table table = {0};
+    uint64_t settings = 0;
+    int status;
+
+    if (!read_options(&words, &settings)) {
+        return WRONG_WORDS;
+    }
+    if ((settings & COUPLINGNUT_SINGLE_INSTRUCTION) != 0) {
+        wrong("OPTION", "--single", "the fewest runs are streaming");
+        return WRONG_WORDS;
+    }
+    if (words[0] == NULL || words[1] != NULL) {
+        wrong_words("--fewest has one TABLE");
+        return WRONG_WORDS;
+    }
+    status = read_file(words[0], read_register, &table);
+    if (status == DONE) {
+        status = sort_table(&table) ? send_fewest(settings, &table) : WRONG_WORDS;
+    }
+    free(table.rows);
     return status;
 }
 
@@ -384,6 +586,10 @@ int main(int argc, char **argv)
     if (argc > 1 && strcmp(argv[1], "--list") == 0) {
         free(bytes);
         return send_file(argv + 2);
+    }
+    if (argc > 1 && strcmp(argv[1], "--fewest") == 0) {
+        free(bytes);
+        return send_table(argv + 2);
     }
     if (read_order(argv + (argc > 0), bytes, &order)) {
         status = send_order(&order);

@@ -40,8 +40,8 @@
  * and last, of a write with effect 1 or 2, the bits in which the register's byte, or its buffer's, differs from the one before it;
  * 0 in all others.
  *
- * Each call gives back a number, the lowest that applies (of the converter 13 before 11, of mending 18 before 6); they are listed
- * below.
+ * Each call gives back a number, the lowest that applies (of the converter 13 before 11, of mending 18 before 6, of the fewest frames 19
+ * before 11); they are listed below.
  */
 #ifndef COUPLINGNUT_H
 #define COUPLINGNUT_H
@@ -77,7 +77,9 @@ enum couplingnut_number {
     COUPLINGNUT_FLAG_LOST = 13,         /* a map with a flag set has no version 1 */
     COUPLINGNUT_BAD_LIST = 14,          /* a list ends inside an order, or has one of another form, or more than 64 */
     COUPLINGNUT_LONG_SETUP = 15,        /* the orders of a list give more than 65,536 samples in total */
-    COUPLINGNUT_BAD_PRODUCT = 18        /* the product number of a map to be mended is 0x0000 or 0xFFFF */
+    COUPLINGNUT_BAD_PRODUCT = 18,       /* the product number of a map to be mended is 0x0000 or 0xFFFF */
+    COUPLINGNUT_BAD_REGISTERS = 19      /* no register or more than 1,000, not strictly rising, one above 0x7FFF or a control
+                                           register, or another number of bytes than addresses */
 };
 
 /* How many bytes a record has, and how many hold the records of so many samples, whatever they are. */
@@ -129,12 +131,16 @@ enum { COUPLINGNUT_MOST_ORDERS = 64, COUPLINGNUT_MOST_SETUP = 65536 };
 /* How many bytes an order with so much data has in a list. */
 #define COUPLINGNUT_LISTED_SIZE(data_length) (8 + (data_length))
 
+/* No more registers are taken for the fewest frames, and no orders of so many take more bytes. */
+enum { COUPLINGNUT_MOST_REGISTERS = 1000 };
+#define COUPLINGNUT_FRAMES_SIZE(registers) (COUPLINGNUT_LISTED_SIZE(1) * (registers))
+
 /*
  * What the library exports.
  *
  * The caller owes, for each call:
- *   - Each pointer with a length after it points to as many bytes as the length says. It is not null, also where that length
- *     is 0.
+ *   - Each pointer with a length after it points to as many bytes, or addresses, as the length says. It is not null, also where
+ *     that length is 0. Addresses are aligned as their type asks.
  *   - session points to a session, and count, taken, samples and length to a number each. They are not null.
  *   - What isn't const overlaps nothing else that is passed, and nobody else uses it during the call; nobody writes what is.
  * Nothing else: every value of every byte and number is allowed, and tested before it is cut to a smaller type.
@@ -211,7 +217,19 @@ COUPLINGNUT_NOT_NULL
 uint32_t couplingnut_send_setup(uint64_t settings, const uint8_t *list, size_t list_length, uint8_t *out, size_t out_length,
                                 uint64_t *samples);
 
-/* What a number says and what to do, in words, for 0 to 18 but 12, 16 and 17; never null. Its code is host/message.c. */
+/*
+ * Makes the fewest streaming write orders, in one direction, that write each listed register once with its byte and no other: puts them
+ * at the start of out, as couplingnut_send_setup takes them, by rising start, and how many bytes they are in *length: 0, 19 or 11. The
+ * rest of out is unchanged. `ascending` is 0 for descending runs, which start at the highest register of a row and have its bytes
+ * backwards; anything else is ascending. Send them with a settings number of that direction, without single instruction. There are as
+ * many bytes as addresses; these rise strictly, up to 0x7FFF, without the control registers 0x0000, 0x0001 and 0x000F. More than 64
+ * orders can come of it: a list is then cut between two orders.
+ */
+COUPLINGNUT_NOT_NULL
+uint32_t couplingnut_fewest_frames(uint64_t ascending, const uint16_t *addresses, size_t addresses_length, const uint8_t *bytes,
+                                   size_t bytes_length, uint8_t *out, size_t out_length, uint64_t *length);
+
+/* What a number says and what to do, in words, for those listed above; never null. Its code is host/message.c. */
 const char *couplingnut_message(uint32_t number);
 
 /* An order to the sender. */

@@ -22,7 +22,7 @@ static const char *const messages[] = {
     "the start address is above 0x7FFF; addresses have 15 bits",
     "a single-instruction write has 0x0000 or 0x0001 anywhere but last; end the run with that byte, or write it on its own",
     "the outgoing buffer is too short; lend 35 + 16 bytes for each byte of the run, or 3 + 48 with single instruction; for a "
-    "map 5 + 3 for each register, or 6 + 3 in version 2",
+    "map 5 + 3 for each register, or 6 + 3 in version 2; for the fewest frames 9 for each register",
     not_given,
     "the map has a flag set, which version 1 has no place for; keep it in version 2, or clear the flag",
     "the list ends inside an order, an order of it has a length below 6 or another version than 1, or there are more than 64; "
@@ -31,6 +31,8 @@ static const char *const messages[] = {
     not_given,
     not_given,
     "the product number of the map is 0x0000 or 0xFFFF, which mending can't guess; put the right one at 0x0004 (low byte) and 0x0005",
+    "the list has no register or more than 1,000, they do not rise, one is above 0x7FFF or a control register, or there is not a byte "
+    "for each; sort the registers, cut the list in two, and write 0x0000, 0x0001 and 0x000F by orders of their own",
 };
 
 const char *couplingnut_message(uint32_t number)

@@ -20,9 +20,9 @@ import ctypes
 import os
 from typing import NamedTuple
 
-__all__ = ['Altered', 'Record', 'Refused', 'Session', 'Settings', 'SettingsInUse', 'banks', 'listed', 'map_test', 'mend', 'message',
-           'next_record', 'open', 'read', 'send', 'send_setup', 'to_version_1', 'to_version_2', 'WRITE', 'READ', 'LSB_FIRST', 'ASCENDING',
-           'SINGLE_INSTRUCTION']
+__all__ = ['Altered', 'Record', 'Refused', 'Session', 'Settings', 'SettingsInUse', 'banks', 'cut_orders', 'fewest_frames', 'listed',
+           'map_test', 'mend', 'message', 'next_record', 'open', 'read', 'send', 'send_setup', 'to_version_1', 'to_version_2', 'WRITE',
+           'READ', 'LSB_FIRST', 'ASCENDING', 'SINGLE_INSTRUCTION']
 
 # The direction of an order, and what its settings number is the sum of.
 WRITE, READ = 0, 1
@@ -35,6 +35,8 @@ MOST_MAP = 24582  # No map is longer.
 ALTERED_SIZE = 5  # The bytes of an altered entry in mending's list.
 MOST_ALTERED = 8192  # No map has more registers.
 MOST_SETUP = 65536  # No list of orders gives more.
+MOST_ORDERS = 64  # No list has more.
+MOST_FRAMES = 9000  # No orders for single registers take more bytes.
 LISTED_VERSION = 1  # The version of the form of an order in a list.
 PHASES = ('rest', 'instruction', 'data')
 
@@ -57,7 +59,8 @@ def _declared(library):
     for name, types in [('map_test', [given, size]), ('to_version_1', converting), ('to_version_2', converting),
                         ('mend', [lent, size, lent, size, told]), ('open', opening), ('read', reading), ('next_record', reading + [told]),
                         ('send', [wide, wide, wide, wide, given, size, lent, size, told]),
-                        ('send_setup', [wide, given, size, lent, size, told])]:
+                        ('send_setup', [wide, given, size, lent, size, told]),
+                        ('fewest_frames', [wide, ctypes.POINTER(ctypes.c_uint16), size, given, size, lent, size, told])]:
         call = getattr(library, 'couplingnut_' + name)
         call.argtypes, call.restype = types, ctypes.c_uint32
     library.couplingnut_message.argtypes, library.couplingnut_message.restype = [ctypes.c_uint32], ctypes.c_char_p
@@ -225,6 +228,14 @@ def _wide(number, name):
     return number
 
 
+def _addresses(numbers):
+    """Addresses as numbers of 16 bits, each of which crosses whole, and how many they are; with one more for the pointer's sake."""
+    numbers = list(numbers)
+    if not all(0 <= number < 2 ** 16 for number in numbers):
+        raise ValueError('an address is no number of 16 bits')
+    return (ctypes.c_uint16 * (len(numbers) + 1))(*numbers), len(numbers)
+
+
 def map_test(map):
     """Refuses bytes that are no good register map (2, 3)."""
     map = bytes(map)
@@ -317,3 +328,24 @@ def send_setup(settings, orders, room=MOST_SETUP):
     orders, out, samples = bytes(orders), bytearray(room), ctypes.c_uint64()
     _accept(_LIBRARY.couplingnut_send_setup(_wide(settings, 'settings'), orders, len(orders), *_lent(out), ctypes.byref(samples)))
     return bytes(out[:samples.value])
+
+
+def fewest_frames(ascending, addresses, data, room=MOST_FRAMES):
+    """The fewest streaming write orders that write each listed register once with its byte and no other: the bytes of a list, by rising
+    start. `data` has a byte for each of the addresses, which rise. Send them with ASCENDING or without it, as `ascending` says, and
+    never with SINGLE_INSTRUCTION; more than 64 by `cut_orders`. Refused: 19, 11."""
+    data, out, length = bytes(data), bytearray(room), ctypes.c_uint64()
+    _accept(_LIBRARY.couplingnut_fewest_frames(bool(ascending), *_addresses(addresses), data, len(data), *_lent(out),
+                                               ctypes.byref(length)))
+    return bytes(out[:length.value])
+
+
+def cut_orders(orders, most=MOST_ORDERS):
+    """A list of orders cut into lists of at most so many, which `send_setup` takes."""
+    start = end = count = 0
+    while end < len(orders):
+        end += 2 + int.from_bytes(orders[end:end + 2], 'big')
+        count += 1
+        if count == most or end >= len(orders):
+            yield orders[start:end]
+            start, count = end, 0

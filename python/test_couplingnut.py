@@ -215,6 +215,47 @@ class Couplingnut(unittest.TestCase):
         self.assert_refused(15, cn.send_setup, 0, read * 5, room=0)
         self.assert_refused(11, cn.send_setup, 0, write * 2, room=101)
 
+    def test_fewest_frames(self):
+        """single registers become one order for each row of them"""
+        addresses, data = [0x0010, 0x0011, 0x0012, 0x0014, 0x7FFF], b'\1\2\3\4\5'
+        alone = cn.listed(cn.WRITE, 0x0014, 1, b'\4') + cn.listed(cn.WRITE, 0x7FFF, 1, b'\5')
+        self.assertEqual(cn.fewest_frames(True, addresses, data), cn.listed(cn.WRITE, 0x0010, 3, b'\1\2\3') + alone)
+        self.assertEqual(cn.fewest_frames(False, addresses, data), cn.listed(cn.WRITE, 0x0012, 3, b'\3\2\1') + alone)
+        self.assertEqual(len(cn.fewest_frames(False, addresses, data, room=29)), 29)
+
+    def test_fewest_frames_written(self):
+        """a thousand registers apart, sent in lists of 64 and read again"""
+        addresses = range(0x0010, 0x0010 + 3000, 3)
+        data = bytes(address % 251 for address in addresses)
+        for ascending, settings in [(False, 0), (True, cn.ASCENDING), (True, cn.ASCENDING | cn.LSB_FIRST)]:
+            lists = list(cn.cut_orders(cn.fewest_frames(ascending, addresses, data)))
+            self.assertEqual(len(lists), 16)
+            recording = b''.join(cn.send_setup(settings, orders) for orders in lists)
+            # 0x0000 by a mirror: bits 5 and 2 ascending, 6 and 1 lowest bit first
+            setting = {0: 0x00, 2: 0x24, 3: 0x66}[settings]
+            session, *banks = opened()
+            session, _ = cn.read(MAP, session, *banks, cn.send(cn.WRITE, 0, 0x0000, 1, [setting]))
+            _, records = cn.read(MAP, session, *banks, recording)
+            self.assertEqual([(record.address, record.byte3) for record in records], list(zip(addresses, data)))
+
+    def test_fewest_frames_refused(self):
+        """each refusal of the fewest frames"""
+        for addresses in [[], [0x0010, 0x0010], [0x0011, 0x0010], [0x8000], [0x0000], [0x0001], [0x000F], range(0x0010, 0x0010 + 1001)]:
+            self.assert_refused(19, cn.fewest_frames, True, addresses, bytes(len(addresses)), room=0)
+        self.assert_refused(19, cn.fewest_frames, True, [0x0010], b'', room=0)
+        self.assert_refused(19, cn.fewest_frames, True, [0x0010], b'\0\0', room=0)
+        self.assert_refused(11, cn.fewest_frames, True, [0x0010, 0x0012], b'\0\0', room=17)
+        self.assertRaises(ValueError, cn.fewest_frames, True, [0x10010], b'\0')
+        self.assertRaises(ValueError, cn.fewest_frames, True, [-1], b'\0')
+
+    def test_cut_orders(self):
+        """a list of orders is cut between two of them"""
+        orders = [cn.listed(cn.WRITE, 0x0010, 1, b'\0'), cn.listed(cn.READ, 0x0004, 2), cn.listed(cn.WRITE, 0x0020, 2, b'\1\2')]
+        self.assertEqual(list(cn.cut_orders(b''.join(orders), 1)), orders)
+        self.assertEqual(list(cn.cut_orders(b''.join(orders), 2)), [orders[0] + orders[1], orders[2]])
+        self.assertEqual(list(cn.cut_orders(b''.join(orders))), [b''.join(orders)])
+        self.assertEqual(list(cn.cut_orders(b'')), [])
+
     def test_overlap(self):
         """banks that overlap are not handed over"""
         session, active, _ = opened()
@@ -225,7 +266,7 @@ class Couplingnut(unittest.TestCase):
 
     def test_message(self):
         """each number has words of its own"""
-        given = [*range(12), 13, 14, 15, 18]
+        given = [*range(12), 13, 14, 15, 18, 19]
         self.assertEqual(len({cn.message(number) for number in given + [2 ** 32 - 1]}), len(given) + 1)
 
 

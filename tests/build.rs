@@ -7,7 +7,7 @@ use std::path::{Path, PathBuf};
 
 /// The calls that document 02 asks for: the cfg under which they are declared,
 /// the file of their tests, and their names.
-const REQUESTED: [(&str, &str, &[&str]); 3] = [
+const REQUESTED: [(&str, &str, &[&str]); 4] = [
     (
         "host_converter",
         "tests/converter.rs",
@@ -15,6 +15,7 @@ const REQUESTED: [(&str, &str, &[&str]); 3] = [
     ),
     ("host_setup", "tests/setup.rs", &["couplingnut_send_setup"]),
     ("host_mend", "tests/mend.rs", &["couplingnut_mend"]),
+    ("host_frames", "tests/frames.rs", &["couplingnut_fewest_frames"]),
 ];
 
 fn main() {

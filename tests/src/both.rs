@@ -10,7 +10,7 @@ use crate::library;
 use crate::made::{agreed, Agreed};
 use crate::second::sender::Order;
 use crate::second::session::Session;
-use crate::second::{converter, map, mend, reader, sender, setup, Answer};
+use crate::second::{converter, frames, map, mend, reader, sender, setup, Answer};
 
 /// The number of a map.
 pub fn map_test(bytes: &[u8]) -> u8 {
@@ -122,6 +122,22 @@ pub fn try_mend(map: &[u8], list: &[u8]) -> Agreed<2> {
     let product =
         |[map, list]: [&mut [u8]; 2], length: &mut u64| library::mend::mend(map, list, length);
     agreed([map, list], second, product)
+}
+
+pub fn fewest_frames(ascending: u64, addresses: &[u16], bytes: &[u8], out: &mut [u8]) -> Answer {
+    keep_last(try_fewest_frames(ascending, addresses, bytes, out), out)
+}
+
+/// The same, which tells a difference.
+pub fn try_fewest_frames(ascending: u64, addresses: &[u16], bytes: &[u8], out: &[u8]) -> Agreed<3> {
+    let in_memory: Vec<u8> = addresses.iter().flat_map(|address| address.to_ne_bytes()).collect();
+    let second = |[_, bytes, out]: [&mut [u8]; 3]| {
+        frames::fewest_frames(ascending != 0, addresses, bytes, out)
+    };
+    let product = |[addresses, bytes, out]: [&mut [u8]; 3], length: &mut u64| {
+        library::frames::fewest_frames(ascending, addresses, bytes, out, length)
+    };
+    agreed([&in_memory, bytes, out], second, product)
 }
 
 /// The answer; the buffer, which is lent last, takes what the call left there.

@@ -5,6 +5,7 @@
 #![allow(unsafe_code)]
 
 pub mod converter;
+pub mod frames;
 pub mod mend;
 pub mod setup;
 

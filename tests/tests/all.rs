@@ -5,6 +5,7 @@ mod bench_tools;
 mod busread;
 mod calls;
 mod converter;
+mod frames;
 mod generator;
 mod guarded;
 mod host;

@@ -1,6 +1,8 @@
 // The library for hosts: every public call, on numbers and bytes alone. A session crosses as its bytes, which the crate
 // `sessionbytes` puts together and takes apart.
 ghost use mathlib.Core.Path.{_≡_};
+ghost use mathlib.Core.Bool.{not};
+ghost use lib.Dec.{eqb};
 ghost use Rattle.maptest.specs.MapTest.{mapNumber};
 ghost use Rattle.convert.specs.Convert.{converting, convertOf};
 ghost use Rattle.mend.specs.Mend.{mending, mendOf};
@@ -8,9 +10,11 @@ ghost use Rattle.registers.specs.Banks.{banks};
 ghost use Rattle.order.specs.Order.{order};
 ghost use Rattle.sender.specs.Calls.{sending, sendOf};
 ghost use Rattle.setup.specs.Calls.{setupOf};
+ghost use Rattle.frames.specs.Calls.{making, makeOf};
 ghost use Rattle.couplingnut.specs.Calls.{opening, openOf, outcome, readOf, next, nextOf};
 use convert::to_version_1;
 use convert::to_version_2;
+use frames::fewest_frames;
 use maptest::map_test;
 use mend::mend;
 use nextrecord::next_record;
@@ -167,4 +171,22 @@ pub extern "C" fn couplingnut_send_setup(
     let setup = send_setup(settings, list, out);
     *samples = setup.samples as u64;
     setup.number as u32
+}
+
+// Puts the fewest streaming write orders that write each listed register once with its byte, and no other, at the start of the
+// outgoing buffer, and says how many bytes they are: descending for 0, else ascending. A refusal, 19 or 11, says 0 bytes and leaves the
+// buffer as it was.
+#[no_mangle]
+pub extern "C" fn couplingnut_fewest_frames(
+    ascending: u64,
+    addresses: &[u16],
+    bytes: &[u8],
+    out: &mut [u8],
+    length: &mut u64,
+) -> u32
+    ensures { λ r. ⌜ making r (now (length .exit)) (now (out .exit)) ≡ makeOf (not (eqb ascending 0)) (now (addresses .entry)) (now (bytes .entry)) (now (out .entry)) ⌝ }
+{
+    let frames = fewest_frames(ascending != 0, addresses, bytes, out);
+    *length = frames.length as u64;
+    frames.number as u32
 }

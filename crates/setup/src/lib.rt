@@ -16,8 +16,10 @@ ghost use Rattle.setup.specs.Look.{Found};
 mod list;
 
 use bits::bit_at;
-use list::DATA_AT;
+pub use list::DATA_AT;
+pub use list::LEAST_LENGTH;
 use list::MOST_ORDERS;
+pub use list::VERSION;
 use list::after;
 use list::order_at;
 use list::stands_at;

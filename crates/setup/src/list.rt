@@ -13,12 +13,12 @@ use order::Order;
 pub const MOST_ORDERS: u8 = 64;
 
 // The version of the form of an order.
-const VERSION: u8 = 1;
+pub const VERSION: u8 = 1;
 
 // The bytes of an order's length, which it does not count; the least that it may say; and the bytes of the smallest order.
 const LENGTH_SIZE: usize = 2;
 
-const LEAST_LENGTH: usize = 6;
+pub const LEAST_LENGTH: usize = 6;
 
 const LEAST_SIZE: usize = LENGTH_SIZE + LEAST_LENGTH;
 

@@ -3,6 +3,7 @@
 //! given, from the same maps and traces.
 
 pub mod calls;
+pub mod frames;
 pub mod maps;
 pub mod mends;
 pub mod orders;

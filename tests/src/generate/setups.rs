@@ -43,6 +43,20 @@ impl Listed {
     }
 }
 
+/// The orders of a list that is made of them.
+pub fn orders_of(mut list: &[u8]) -> Vec<Listed> {
+    let mut orders = Vec::new();
+    while let &[l1, l0, 1, direction, s1, s0, c1, c0, ref rest @ ..] = list {
+        let length = usize::from(u16::from_be_bytes([l1, l0])) - 6;
+        let (start, count) = (u16::from_be_bytes([s1, s0]), u16::from_be_bytes([c1, c0]));
+        let (data, after) = rest.split_at(length);
+        orders.push(Listed { direction, start, count, data: data.to_vec() });
+        list = after;
+    }
+    assert!(list.is_empty(), "{list:02X?} is no order");
+    orders
+}
+
 pub fn list_of(orders: &[Listed]) -> Vec<u8> {
     orders.iter().flat_map(Listed::bytes).collect()
 }

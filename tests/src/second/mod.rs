@@ -14,11 +14,13 @@
 //! | `converter` | document 02, Ask 3 |
 //! | `setup` | document 02, Ask 6 |
 //! | `mend` | document 02, Ask 12 |
+//! | `frames` | document 02, Ask 13 |
 //!
 //! The call for the next record, in `reader`, is the library's own: document 01
 //! does not have it.
 
 pub mod converter;
+pub mod frames;
 pub mod map;
 pub mod mend;
 pub mod reader;

@@ -5,7 +5,7 @@ use super::sender::{self, Order};
 use super::Answer;
 
 /// The version of an order's form.
-const VERSION: u8 = 1;
+pub(super) const VERSION: u8 = 1;
 const MOST_ORDERS: usize = 64;
 /// The most samples of one recording.
 const MOST_SAMPLES: usize = 65_536;
