@@ -18,12 +18,33 @@
 
 enum { DONE = 0, REFUSED = 1, WRONG_WORDS = 2, FAILED = 3 };
 
-static const char usage[] = "usage: busread [MAP [SAMPLES]]\n"
+static const char usage[] = "usage: busread [--part PART] [MAP [SAMPLES]]\n"
                             "       busread --help | --version\n"
                             "MAP and SAMPLES are files, or - for standard input. Without SAMPLES the samples come from standard\n"
-                            "input, and without MAP the map comes before them. The records go to standard output.\n";
+                            "input, and without MAP the map comes before them. The records go to standard output.\n"
+                            "PART is AD9557 or AD9508: the recording is of such an older clock chip, and MAP is its map.\n";
 
 static const char standard_input[] = "standard input";
+
+/* A reading of recording.h. */
+typedef uint32_t reading_call(int32_t map_file, int32_t samples_file, int32_t to, uint64_t *number, uint64_t *samples,
+                              uint64_t *fell, uint64_t *rose);
+
+/* The parts that --part can name. */
+static const struct {
+    const char *name;
+    reading_call *call;
+} parts[] = {
+    {"AD9557", couplingnut_read_recording_ad9557},
+    {"AD9508", couplingnut_read_recording_ad9508},
+};
+
+/* What the command line asks for: how to read, and the words of MAP and SAMPLES. */
+struct asked {
+    reading_call *call;
+    const char *files[2];
+    size_t count;
+};
 
 /* What a reading tells beside how it ended. */
 struct told {
@@ -83,12 +104,11 @@ static int say_dead(const struct told *told)
 }
 
 /* Reads the recording of two open files, or of one. */
-static int read_recording(const struct source *map, const struct source *samples)
+static int read_recording(reading_call *call, const struct source *map, const struct source *samples)
 {
     struct told told;
 
-    switch (couplingnut_read_recording(map->file, samples->file, STDOUT_FILENO, &told.number, &told.samples, &told.fell,
-                                       &told.rose)) {
+    switch (call(map->file, samples->file, STDOUT_FILENO, &told.number, &told.samples, &told.fell, &told.rose)) {
     case RECORDING_DONE:
         return say_dead(&told);
     case RECORDING_REFUSED:
@@ -116,8 +136,56 @@ static int print(const char *text)
     return fputs(text, stdout) < 0 || fclose(stdout) != 0 ? failed("standard output") : DONE;
 }
 
+/* Takes the name of a part, once. */
+static int take_part(const char *name, struct asked *asked)
+{
+    if (asked->call != couplingnut_read_recording) {
+        return wrong_words("--part is given twice", NULL);
+    }
+    for (size_t i = 0; i < sizeof parts / sizeof parts[0]; i++) {
+        if (strcmp(name, parts[i].name) == 0) {
+            asked->call = parts[i].call;
+            return DONE;
+        }
+    }
+    return wrong_words("--part is AD9557 or AD9508, and not", name);
+}
+
+/* Takes a file's word. */
+static int take_file(const char *word, struct asked *asked)
+{
+    if (asked->count == sizeof asked->files / sizeof asked->files[0]) {
+        return wrong_words("there are words after SAMPLES", NULL);
+    }
+    asked->files[asked->count++] = word;
+    return DONE;
+}
+
+/* Takes the words of a command line, up to the first wrong one. */
+static int take_words(char **words, struct asked *asked)
+{
+    static const char part[] = "--part=";
+    int status = DONE;
+
+    for (; *words != NULL && status == DONE; words++) {
+        if (strcmp(*words, "--part") == 0 && words[1] == NULL) {
+            status = wrong_words("there is no name after --part", NULL);
+        } else if (strcmp(*words, "--part") == 0) {
+            status = take_part(*++words, asked);
+        } else if (strncmp(*words, part, sizeof part - 1) == 0) {
+            status = take_part(*words + sizeof part - 1, asked);
+        } else if ((*words)[0] == '-' && (*words)[1] != '\0') {
+            status = wrong_words("there is no option", *words);
+        } else {
+            status = take_file(*words, asked);
+        }
+    }
+    return status;
+}
+
 int main(int argc, char **argv)
 {
+    struct asked asked = {couplingnut_read_recording, {"-", "-"}, 0};
     struct source map;
     struct source samples;
     int status;
@@ -130,17 +198,12 @@ int main(int argc, char **argv)
     if (argc > 1 && strcmp(argv[1], "--version") == 0) {
         return print("busread " COUPLINGNUT_VERSION "\n");
     }
-    for (int i = 1; i < argc; i++) {
-        if (argv[i][0] == '-' && argv[i][1] != '\0') {
-            return wrong_words("there is no option", argv[i]);
-        }
-    }
-    if (argc > 3) {
-        return wrong_words("there are words after SAMPLES", NULL);
-    }
-    status = open_source(argc > 1 ? argv[1] : "-", &map);
+    status = argc > 1 ? take_words(argv + 1, &asked) : DONE;
     if (status == DONE) {
-        status = open_source(argc > 2 ? argv[2] : "-", &samples);
+        status = open_source(asked.files[0], &map);
     }
-    return status == DONE ? read_recording(&map, &samples) : status;
+    if (status == DONE) {
+        status = open_source(asked.files[1], &samples);
+    }
+    return status == DONE ? read_recording(asked.call, &map, &samples) : status;
 }

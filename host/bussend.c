@@ -19,10 +19,12 @@ enum { DONE = 0, REFUSED = 1, WRONG_WORDS = 2, FAILED = 3 };
 
 static const char usage[] = "usage: bussend write [--lsb] [--ascending] [--single] START [BYTE..]\n"
                             "       bussend read [--lsb] [--ascending] [--single] START COUNT\n"
+                            "       bussend write|read --part PART --top TOP [--lsb] START ..\n"
                             "       bussend --list [--lsb] [--ascending] [--single] FILE\n"
                             "       bussend --fewest [--lsb] [--ascending] TABLE\n"
                             "       bussend --help | --version\n"
                             "Numbers are decimal, or hexadecimal after 0x. The samples go to standard output.\n"
+                            "PART is an older chip, AD9557 or AD9508, and TOP the highest address that it has.\n"
                             "A line of FILE is an order, write START [BYTE..] or read START COUNT; # begins a comment.\n"
                             "A line of TABLE is a register and its byte, ADDRESS BYTE; the fewest streaming writes are sent.\n";
 
@@ -36,6 +38,17 @@ static const struct {
     {"--lsb", COUPLINGNUT_LSB_FIRST},
     {"--ascending", COUPLINGNUT_ASCENDING},
     {"--single", COUPLINGNUT_SINGLE_INSTRUCTION},
+};
+
+/* The older chips. The samples are the same for all of them, so that a part is only looked up. */
+static const char *const parts[] = {"AD9557", "AD9508"};
+
+/* What the options say: the settings number and, of an older chip, its part and its top. */
+struct chosen {
+    uint64_t settings;
+    const char *part;
+    const char *top_word;
+    uint64_t top;
 };
 
 /* The line that is read of the list or table, and its name, null where the words are those of the command line. */
@@ -148,24 +161,72 @@ static bool read_count(char **words, struct couplingnut_order *order)
     return read_number("COUNT", words[0], &order->count);
 }
 
-/* Reads the options before the other words, and adds their settings. */
-static bool read_options(char ***words, uint64_t *settings)
+/* Takes an option that stands alone, and adds its setting. */
+static bool take_setting(const char *word, struct chosen *chosen)
+{
+    for (size_t i = 0; i < sizeof options / sizeof options[0]; i++) {
+        if (strcmp(word, options[i].word) == 0) {
+            chosen->settings |= options[i].setting;
+            return true;
+        }
+    }
+    return wrong("OPTION", word, "give --lsb, --ascending or --single, or --part and --top");
+}
+
+/* Takes the word after --part. */
+static bool take_part(const char *word, struct chosen *chosen)
+{
+    for (size_t i = 0; i < sizeof parts / sizeof parts[0]; i++) {
+        if (strcmp(word, parts[i]) == 0) {
+            chosen->part = parts[i];
+            return true;
+        }
+    }
+    return wrong("PART", word, "give AD9557 or AD9508");
+}
+
+/* Takes the word after --top. */
+static bool take_top(const char *word, struct chosen *chosen)
+{
+    chosen->top_word = word;
+    return read_number("TOP", word, &chosen->top);
+}
+
+/* Reads the options before the other words. */
+static bool read_options(char ***words, struct chosen *chosen)
 {
     for (; **words != NULL && (**words)[0] == '-' && (**words)[1] != '\0'; ++*words) {
-        size_t i = 0;
-        while (i < sizeof options / sizeof options[0] && strcmp(**words, options[i].word) != 0) {
-            i++;
+        bool part = strcmp(**words, "--part") == 0;
+        if (!part && strcmp(**words, "--top") != 0) {
+            if (!take_setting(**words, chosen)) {
+                return false;
+            }
+            continue;
         }
-        if (i == sizeof options / sizeof options[0]) {
-            return wrong("OPTION", **words, "give --lsb, --ascending or --single");
+        if (*++*words == NULL) {
+            return wrong_words(part ? "--part has a PART" : "--top has a TOP");
         }
-        *settings |= options[i].setting;
+        if (!(part ? take_part(**words, chosen) : take_top(**words, chosen))) {
+            return false;
+        }
+    }
+    return true;
+}
+
+/* Says whether the options go together: a part has a top, and its bit order alone; only a part has a top. */
+static bool goes_together(const struct chosen *chosen)
+{
+    if ((chosen->part == NULL) != (chosen->top_word == NULL)) {
+        return wrong_words("--part and --top go together");
+    }
+    if (chosen->part != NULL && chosen->settings > COUPLINGNUT_LSB_FIRST) {
+        return wrong_words("an older chip has --lsb alone: with it the addresses go up, without it down");
     }
     return true;
 }
 
 /* Reads words, which end with a null pointer, as an order; only the command line has options. There are more bytes than words. */
-static bool read_order(char **words, uint8_t *bytes, struct couplingnut_order *order)
+static bool read_order(char **words, uint8_t *bytes, struct couplingnut_order *order, struct chosen *chosen)
 {
     bool reads = *words != NULL && strcmp(*words, "read") == 0;
 
@@ -174,9 +235,10 @@ static bool read_order(char **words, uint8_t *bytes, struct couplingnut_order *o
     }
     order->direction = reads ? COUPLINGNUT_READ : COUPLINGNUT_WRITE;
     words++;
-    if (place.file == NULL && !read_options(&words, &order->settings)) {
+    if (place.file == NULL && !(read_options(&words, chosen) && goes_together(chosen))) {
         return false;
     }
+    order->settings = chosen->settings;
     if (*words == NULL) {
         return wrong_words("START is missing");
     }
@@ -204,12 +266,13 @@ static int refused(uint32_t number)
     return REFUSED;
 }
 
-/* Has the sender carry out an order. */
-static int send_order(const struct couplingnut_order *order)
+/* Has the sender carry out an order, to a newer chip or to the part that is chosen. */
+static int send_order(const struct couplingnut_order *order, const struct chosen *chosen)
 {
     static uint8_t out[COUPLINGNUT_MOST_SAMPLES];
     uint64_t samples;
-    uint32_t number = couplingnut_send_order(order, out, sizeof out, &samples);
+    uint32_t number = chosen->part == NULL ? couplingnut_send_order(order, out, sizeof out, &samples)
+                                           : couplingnut_send_order_older(chosen->top, order, out, sizeof out, &samples);
 
     return number != 0 ? refused(number) : write_out("the samples", out, (size_t)samples);
 }
@@ -328,7 +391,8 @@ static bool read_listed(char **words, size_t most, void *into)
 {
     struct couplingnut_order order = {0};
     uint8_t *bytes = memory(NULL, most);
-    bool good = read_order(words, bytes, &order) && add_order(into, &order);
+    struct chosen none = {0};
+    bool good = read_order(words, bytes, &order, &none) && add_order(into, &order);
 
     free(bytes);
     return good;
@@ -369,14 +433,23 @@ static int send_list(const struct setup *setup, uint64_t settings)
     return write_out("the samples", out, (size_t)samples);
 }
 
+/* Reads the options of what is for the newer chips alone; the words say so where a part or a top is named. */
+static bool read_newer_options(char ***words, struct chosen *chosen, const char *what)
+{
+    if (!read_options(words, chosen)) {
+        return false;
+    }
+    return (chosen->part == NULL && chosen->top_word == NULL) || wrong_words(what);
+}
+
 /* Sends the list that the words after --list name. */
 static int send_file(char **words)
 {
     struct setup setup = {0};
-    uint64_t settings = 0;
+    struct chosen chosen = {0};
     int status;
 
-    if (!read_options(&words, &settings)) {
+    if (!read_newer_options(&words, &chosen, "--list is for the newer chips: send the runs of an older one by one")) {
         return WRONG_WORDS;
     }
     if (words[0] == NULL || words[1] != NULL) {
@@ -385,7 +458,7 @@ static int send_file(char **words)
     }
     status = read_file(words[0], read_listed, &setup);
     if (status == DONE) {
-        status = send_list(&setup, settings);
+        status = send_list(&setup, chosen.settings);
     }
     free(setup.bytes);
     return status;
@@ -541,13 +614,13 @@ static int send_fewest(uint64_t settings, const struct table *table)
 static int send_table(char **words)
 {
     struct table table = {0};
-    uint64_t settings = 0;
+    struct chosen chosen = {0};
     int status;
 
-    if (!read_options(&words, &settings)) {
+    if (!read_newer_options(&words, &chosen, "--fewest is for the newer chips: send the runs of an older one by one")) {
         return WRONG_WORDS;
     }
-    if ((settings & COUPLINGNUT_SINGLE_INSTRUCTION) != 0) {
+    if ((chosen.settings & COUPLINGNUT_SINGLE_INSTRUCTION) != 0) {
         wrong("OPTION", "--single", "the fewest runs are streaming");
         return WRONG_WORDS;
     }
@@ -557,7 +630,7 @@ static int send_table(char **words)
     }
     status = read_file(words[0], read_register, &table);
     if (status == DONE) {
-        status = sort_table(&table) ? send_fewest(settings, &table) : WRONG_WORDS;
+        status = sort_table(&table) ? send_fewest(chosen.settings, &table) : WRONG_WORDS;
     }
     free(table.rows);
     return status;
@@ -566,6 +639,7 @@ static int send_table(char **words)
 int main(int argc, char **argv)
 {
     struct couplingnut_order order = {0};
+    struct chosen chosen = {0};
     uint8_t *bytes = malloc((size_t)argc + 1);
     int status = WRONG_WORDS;
 
@@ -591,8 +665,8 @@ int main(int argc, char **argv)
         free(bytes);
         return send_table(argv + 2);
     }
-    if (read_order(argv + (argc > 0), bytes, &order)) {
-        status = send_order(&order);
+    if (read_order(argv + (argc > 0), bytes, &order, &chosen)) {
+        status = send_order(&order, &chosen);
     }
     free(bytes);
     return status;

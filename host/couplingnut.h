@@ -41,7 +41,22 @@
  * 0 in all others.
  *
  * Each call gives back a number, the lowest that applies (of the converter 13 before 11, of mending 18 before 6, of the fewest frames 19
- * before 11); they are listed below.
+ * before 11; 12 after 4, and in the sender first); they are listed below.
+ *
+ * THE OLDER CHIPS. All of the above is about the newer chips. Two older clock chips, the AD9557 and the AD9508, speak an older form of
+ * the interface. They have calls of their own, whose names end with the part, and that take its highest address, the top, first. What is
+ * different with them:
+ *   - An instruction has a direction, two length bits and 13 address bits. Lengths 0, 1 and 2 mean a run of 1, 2 and 3 bytes; 3 means that
+ *     the run streams. Highest bit first the addresses go down, lowest first up.
+ *   - A run ends after its count, at address 0 going down and at the top going up; one that starts above the top has no byte at all. The
+ *     bits that follow are passed over until the select rises: no record, and nothing is broken off.
+ *   - Before each byte of a counted run the select may rise; the run stalls, and goes on as the select falls. While streaming, or inside a
+ *     byte or an instruction, a rise ends the frame, as on newer chips.
+ *   - Control registers are 0x0000 (bit 6: lowest bit first, from the next instruction on), 0x0005 (bit 0: a transfer) and, on the AD9557,
+ *     0x0004 (bit 0: reads give the buffer of a buffered register). They read as that one bit, 0x0005 as 0. There is no soft reset. Data
+ *     is read from SDIO, and there is no single instruction.
+ *   - The map has an entry for each address up to the top, so n = top + 1. Control stands at exactly those places; every other place may
+ *     have any other kind. Both versions are read; the flag does nothing.
  */
 #ifndef COUPLINGNUT_H
 #define COUPLINGNUT_H
@@ -69,11 +84,12 @@ enum couplingnut_number {
     COUPLINGNUT_BAD_BANK = 4,           /* a bank isn't n bytes */
     COUPLINGNUT_BAD_SAMPLES = 5,        /* more than 65,536 samples, or one with any of bits 4 to 7 set */
     COUPLINGNUT_SHORT_RECORDS = 6,      /* the records, or the list of what mending alters, need more bytes than are lent */
-    COUPLINGNUT_BAD_ORDER = 7,          /* the direction is above 1, or the settings number above 7 */
+    COUPLINGNUT_BAD_ORDER = 7,          /* the direction is above 1, or the settings number above 7 (to an older chip above 1) */
     COUPLINGNUT_BAD_COUNT = 8,          /* the count isn't 1 to 1,000, or the data isn't as long as it says (a read has none) */
-    COUPLINGNUT_BAD_START = 9,          /* the start address is above 0x7FFF */
+    COUPLINGNUT_BAD_START = 9,          /* the start address is above 0x7FFF; to an older chip: the run leaves 0 to the top */
     COUPLINGNUT_BAD_SINGLE = 10,        /* a single-instruction write with 0x0000 or 0x0001 anywhere but last */
     COUPLINGNUT_SHORT_OUT = 11,         /* the outgoing buffer is too short */
+    COUPLINGNUT_BAD_TOP = 12,           /* an older chip's top is below 0x000F, above 0x1FFF, or with a map not n - 1 */
     COUPLINGNUT_FLAG_LOST = 13,         /* a map with a flag set has no version 1 */
     COUPLINGNUT_BAD_LIST = 14,          /* a list ends inside an order, or has one of another form, or more than 64 */
     COUPLINGNUT_LONG_SETUP = 15,        /* the orders of a list give more than 65,536 samples in total */
@@ -97,9 +113,9 @@ enum { COUPLINGNUT_MOST_READ = 65536 };
 
 /*
  * Where a recording stands between two calls: nothing but these bytes, so it can be copied, compared and stored. Opening makes
- * the first one. Version 2 of the layout, a byte for each field but the two numbers of 2 bytes, high byte first:
+ * the first one. Version 3 of the layout, a byte for each field but the two numbers of 2 bytes, high byte first:
  *
- *      0         the version, 2
+ *      0         the version, 3
  *      1, 2      the last CSB and SCLK
  *      3         the phase: 0 rest, 1 instruction, 2 data
  *      4         how many bits of the present instruction or byte are taken
@@ -108,10 +124,18 @@ enum { COUPLINGNUT_MOST_READ = 65536 };
  *      9         the direction: 0 write, 1 read
  *     10 to 14   the settings: LSB first, ascending, SDO active, single instruction, buffer readback
  *     15 to 18   the first four of them as the present instruction uses them
+ *     19         of an older chip in data: how many bytes of its run are left, the one under way included: 1 to 3, or 4 where it streams;
+ *                else 0
  *
  * Flags are 0 or 1. Bytes with another version, phase or flag are no session.
+ *
+ * An older chip has two more places to stand. It passes bits over: phase 0 with byte 1 (the last CSB) 0. And it stalls: phase 2 with byte 1
+ * at 1. A stalled session is a good one, and no mistake of the reader: the select rose inside a counted run, and the chip goes on with
+ * that run as the select falls. So the next frame is read as the rest of it, and not as a new instruction. Whoever stops a counted run
+ * on the way and wants to begin anew has to send the bytes that are left first. A newer chip's call refuses both with 1, and so does
+ * any call a session in data that its chip can't have; at rest and in an instruction a session fits every chip.
  */
-#define COUPLINGNUT_SESSION_SIZE 19
+#define COUPLINGNUT_SESSION_SIZE 20
 typedef struct couplingnut_session {
     uint8_t bytes[COUPLINGNUT_SESSION_SIZE];
 } couplingnut_session;
@@ -121,6 +145,9 @@ enum { COUPLINGNUT_WRITE = 0, COUPLINGNUT_READ = 1 };
 
 /* The settings number of an order is the sum of those that the chip has set. */
 enum { COUPLINGNUT_LSB_FIRST = 1, COUPLINGNUT_ASCENDING = 2, COUPLINGNUT_SINGLE_INSTRUCTION = 4 };
+
+/* The highest address that an older chip can have: at least and at most. */
+enum { COUPLINGNUT_LEAST_TOP = 0x000F, COUPLINGNUT_MOST_TOP = 0x1FFF };
 
 /* No order takes more samples: 3 + 48 * 1,000, for 1,000 bytes with single instruction. Streaming takes 35 + 16 * count. */
 enum { COUPLINGNUT_MOST_SAMPLES = 48003 };
@@ -229,14 +256,66 @@ COUPLINGNUT_NOT_NULL
 uint32_t couplingnut_fewest_frames(uint64_t ascending, const uint16_t *addresses, size_t addresses_length, const uint8_t *bytes,
                                    size_t bytes_length, uint8_t *out, size_t out_length, uint64_t *length);
 
+/*
+ * The same for the older chips; `top` is the highest address that the part has. Each leaves what its newer call leaves, by the older
+ * chip's rules. A refusal may also be 12: in the map test after 3, in the others after 4. The same part and top go with one recording from
+ * its opening to its end.
+ */
+COUPLINGNUT_NOT_NULL
+uint32_t couplingnut_map_test_ad9557(uint64_t top, const uint8_t *map, size_t map_length);
+
+COUPLINGNUT_NOT_NULL
+uint32_t couplingnut_map_test_ad9508(uint64_t top, const uint8_t *map, size_t map_length);
+
+COUPLINGNUT_NOT_NULL
+uint32_t couplingnut_open_ad9557(uint64_t top, const uint8_t *map, size_t map_length, couplingnut_session *session,
+                                 uint8_t *active, size_t active_length, uint8_t *buffer, size_t buffer_length);
+
+COUPLINGNUT_NOT_NULL
+uint32_t couplingnut_open_ad9508(uint64_t top, const uint8_t *map, size_t map_length, couplingnut_session *session,
+                                 uint8_t *active, size_t active_length, uint8_t *buffer, size_t buffer_length);
+
+COUPLINGNUT_NOT_NULL
+uint32_t couplingnut_read_ad9557(uint64_t top, const uint8_t *map, size_t map_length, couplingnut_session *session,
+                                 uint8_t *active, size_t active_length, uint8_t *buffer, size_t buffer_length,
+                                 const uint8_t *samples, size_t samples_length, uint8_t *records, size_t records_length,
+                                 uint64_t *count);
+
+COUPLINGNUT_NOT_NULL
+uint32_t couplingnut_read_ad9508(uint64_t top, const uint8_t *map, size_t map_length, couplingnut_session *session,
+                                 uint8_t *active, size_t active_length, uint8_t *buffer, size_t buffer_length,
+                                 const uint8_t *samples, size_t samples_length, uint8_t *records, size_t records_length,
+                                 uint64_t *count);
+
+COUPLINGNUT_NOT_NULL
+uint32_t couplingnut_next_record_ad9557(uint64_t top, const uint8_t *map, size_t map_length, couplingnut_session *session,
+                                        uint8_t *active, size_t active_length, uint8_t *buffer, size_t buffer_length,
+                                        const uint8_t *samples, size_t samples_length, uint8_t *records,
+                                        size_t records_length, uint64_t *count, uint64_t *taken);
+
+COUPLINGNUT_NOT_NULL
+uint32_t couplingnut_next_record_ad9508(uint64_t top, const uint8_t *map, size_t map_length, couplingnut_session *session,
+                                        uint8_t *active, size_t active_length, uint8_t *buffer, size_t buffer_length,
+                                        const uint8_t *samples, size_t samples_length, uint8_t *records,
+                                        size_t records_length, uint64_t *count, uint64_t *taken);
+
+/*
+ * Sends an order to an older chip; the samples are the same for either part: 0, 12, or 7, 8, 9 or 11. `settings` is 0, or
+ * COUPLINGNUT_LSB_FIRST: the addresses then go up, else down. Up to 3 bytes are a counted run, more stream; it takes 35 + 16 * count
+ * samples. 12 comes first.
+ */
+COUPLINGNUT_NOT_NULL
+uint32_t couplingnut_send_older(uint64_t top, uint64_t direction, uint64_t settings, uint64_t start, uint64_t count,
+                                const uint8_t *data, size_t data_length, uint8_t *out, size_t out_length, uint64_t *samples);
+
 /* What a number says and what to do, in words, for those listed above; never null. Its code is host/message.c. */
 const char *couplingnut_message(uint32_t number);
 
 /* An order to the sender. */
 struct couplingnut_order {
     uint64_t direction;  /* COUPLINGNUT_WRITE or COUPLINGNUT_READ */
-    uint64_t settings;   /* a sum of COUPLINGNUT_LSB_FIRST, _ASCENDING and _SINGLE_INSTRUCTION */
-    uint64_t start;      /* the first address, at most 0x7FFF */
+    uint64_t settings;   /* a sum of COUPLINGNUT_LSB_FIRST, _ASCENDING and _SINGLE_INSTRUCTION; to an older chip the first, or 0 */
+    uint64_t start;      /* the first address, at most 0x7FFF; of an older chip at most the top */
     uint64_t count;      /* bytes written or read, 1 to 1,000 */
     const uint8_t *data; /* the bytes of a write; null will do for a read */
     size_t data_length;  /* count for a write, 0 for a read */
@@ -258,6 +337,17 @@ static inline uint32_t couplingnut_send_order(const struct couplingnut_order *or
     return couplingnut_send(order->direction, order->settings, order->start, order->count,
                             order->data_length == 0 ? &no_data : order->data, order->data_length,
                             out_length == 0 ? &no_room : out, out_length, samples);
+}
+
+/* couplingnut_send_older, the same way. */
+static inline uint32_t couplingnut_send_order_older(uint64_t top, const struct couplingnut_order *order, uint8_t *out,
+                                                    size_t out_length, uint64_t *samples)
+{
+    const uint8_t no_data = 0;
+    uint8_t no_room = 0;
+    return couplingnut_send_older(top, order->direction, order->settings, order->start, order->count,
+                                  order->data_length == 0 ? &no_data : order->data, order->data_length,
+                                  out_length == 0 ? &no_room : out, out_length, samples);
 }
 
 /* couplingnut_send_setup, where list and out may be null if their lengths are 0. The other duties stay. */

@@ -10,6 +10,13 @@
         for record in records:
             print(record)
 
+The older clock chips are named as `part`, 'AD9557' or 'AD9508', with `top`, the highest address that the part has; without a top it is
+the map's last one. One recording is read with one part and top:
+
+    session = cn.open(chip, active, buffer, part='AD9508')
+    session, records = cn.read(chip, session, active, buffer, piece, part='AD9508')
+    samples = cn.send(cn.WRITE, 0, 0x15, 2, [0x10, 0x20], part='AD9508', top=0x2C)
+
 A call that the library refuses raises `Refused`, with the number and its words, and leaves all that it was lent as it was. A session is
 a value: calls give back a new one. A sample is one byte: bit 0 CSB, bit 1 SCLK, bit 2 SDIO, bit 3 SDO.
 
@@ -20,15 +27,19 @@ import ctypes
 import os
 from typing import NamedTuple
 
-__all__ = ['Altered', 'Record', 'Refused', 'Session', 'Settings', 'SettingsInUse', 'banks', 'cut_orders', 'fewest_frames', 'listed',
-           'map_test', 'mend', 'message', 'next_record', 'open', 'read', 'send', 'send_setup', 'to_version_1', 'to_version_2', 'WRITE',
-           'READ', 'LSB_FIRST', 'ASCENDING', 'SINGLE_INSTRUCTION']
+__all__ = ['PARTS', 'Altered', 'Record', 'Refused', 'Session', 'Settings', 'SettingsInUse', 'banks', 'cut_orders', 'fewest_frames',
+           'listed', 'map_test', 'mend', 'message', 'next_record', 'open', 'read', 'send', 'send_setup', 'to_version_1', 'to_version_2',
+           'WRITE', 'READ', 'LSB_FIRST', 'ASCENDING', 'SINGLE_INSTRUCTION', 'STREAMS']
 
 # The direction of an order, and what its settings number is the sum of.
 WRITE, READ = 0, 1
 LSB_FIRST, ASCENDING, SINGLE_INSTRUCTION = 1, 2, 4
 
-SESSION_SIZE = 19
+# The older chips, and what a session has for the bytes left of a run that streams.
+PARTS = ('AD9557', 'AD9508')
+STREAMS = 4
+
+SESSION_SIZE = 20
 RECORD_SIZE = 7
 MOST_SAMPLES = 48003  # No order gives more.
 MOST_MAP = 24582  # No map is longer.
@@ -56,11 +67,14 @@ def _declared(library):
     opening = [given, size, lent, lent, size, lent, size]
     reading = opening + [given, size, lent, size, told]
     converting = [given, size, lent, size, told]
-    for name, types in [('map_test', [given, size]), ('to_version_1', converting), ('to_version_2', converting),
-                        ('mend', [lent, size, lent, size, told]), ('open', opening), ('read', reading), ('next_record', reading + [told]),
-                        ('send', [wide, wide, wide, wide, given, size, lent, size, told]),
-                        ('send_setup', [wide, given, size, lent, size, told]),
-                        ('fewest_frames', [wide, ctypes.POINTER(ctypes.c_uint16), size, given, size, lent, size, told])]:
+    sending = [wide, wide, wide, wide, given, size, lent, size, told]
+    by_chip = [('map_test', [given, size]), ('open', opening), ('read', reading), ('next_record', reading + [told])]
+    older = [(f'{name}_{part.lower()}', [wide] + types) for name, types in by_chip for part in PARTS]
+    for name, types in by_chip + older + [('to_version_1', converting), ('to_version_2', converting),
+                                          ('mend', [lent, size, lent, size, told]),
+                                          ('send', sending), ('send_older', [wide] + sending),
+                                          ('send_setup', [wide, given, size, lent, size, told]),
+                                          ('fewest_frames', [wide, ctypes.POINTER(ctypes.c_uint16), size, given, size, lent, size, told])]:
         call = getattr(library, 'couplingnut_' + name)
         call.argtypes, call.restype = types, ctypes.c_uint32
     library.couplingnut_message.argtypes, library.couplingnut_message.restype = [ctypes.c_uint32], ctypes.c_char_p
@@ -118,7 +132,7 @@ class Altered(NamedTuple):
 
 
 class Session:
-    """What the reader keeps between calls, as a value of 19 bytes. Any such bytes make one; the reader refuses those that are none."""
+    """What the reader keeps between calls, as a value of 20 bytes. Any such bytes make one; the reader refuses those that are none."""
     __slots__ = ('_bytes',)
 
     def __init__(self, data):
@@ -190,6 +204,16 @@ class Session:
         """The settings that this instruction started with."""
         return SettingsInUse(*map(bool, self._bytes[15:19]))
 
+    @property
+    def left(self):
+        """Of an older chip in data: how many bytes of its run are left, 1 to 3, or STREAMS; else 0."""
+        return self._bytes[19]
+
+    @property
+    def stalled(self):
+        """Whether an older chip's run stalls: the next frame is the rest of it, and no new instruction."""
+        return self.phase == 'data' and self.last_csb == 1
+
 
 def message(number):
     """The words for a number."""
@@ -236,10 +260,29 @@ def _addresses(numbers):
     return (ctypes.c_uint16 * (len(numbers) + 1))(*numbers), len(numbers)
 
 
-def map_test(map):
-    """Refuses bytes that are no good register map (2, 3)."""
+def _registers(map):
+    """How many registers a map says that it has."""
+    return int.from_bytes(bytes(map)[3:5], 'big')
+
+
+def _by_chip(name, part, top, map):
+    """The library's call of this name for a newer chip, where no part is named, or for the part; and what stands before its other words."""
+    if part is None:
+        if top is not None:
+            raise ValueError('only a part has a top')
+        return getattr(_LIBRARY, 'couplingnut_' + name), ()
+    if part not in PARTS:
+        raise ValueError(f'{part!r} is none of the older chips, which are {" and ".join(PARTS)}')
+    if top is None:
+        top = max(_registers(map) - 1, 0)
+    return getattr(_LIBRARY, f'couplingnut_{name}_{part.lower()}'), (_wide(top, 'top'),)
+
+
+def map_test(map, part=None, top=None):
+    """Refuses bytes that are no good register map (2, 3; of a part also 12)."""
     map = bytes(map)
-    _accept(_LIBRARY.couplingnut_map_test(map, len(map)))
+    call, first = _by_chip('map_test', part, top, map)
+    _accept(call(*first, map, len(map)))
 
 
 def _converted(call, map, room):
@@ -271,48 +314,54 @@ def mend(map, room=MOST_ALTERED):
 
 def banks(map):
     """Two banks as long as a map has registers, for `open` to fill."""
-    n = int.from_bytes(bytes(map)[3:5], 'big')
+    n = _registers(map)
     return bytearray(n), bytearray(n)
 
 
-def open(map, active, buffer):
-    """Puts a map's defaults in both banks, and gives the opened session. Refused: 2, 3, 4."""
+def open(map, active, buffer, part=None, top=None):
+    """Puts a map's defaults in both banks, and gives the opened session. Refused: 2, 3, 4; of a part also 12."""
     map, room = bytes(map), (ctypes.c_uint8 * SESSION_SIZE)()
-    _accept(_LIBRARY.couplingnut_open(map, len(map), room, *_banks_lent(active, buffer)))
+    call, first = _by_chip('open', part, top, map)
+    _accept(call(*first, map, len(map), room, *_banks_lent(active, buffer)))
     return Session(room)
 
 
-def read(map, session, active, buffer, samples, room=None):
+def read(map, session, active, buffer, samples, room=None, part=None, top=None):
     """Reads samples, at most 65,536: the next session, and a list of records. The banks change in place.
 
-    `room` is how many records there is room for; as many as there can be, if it isn't given. Refused: 1 to 6.
+    `room` is how many records there is room for; as many as there can be, if it isn't given. Refused: 1 to 6; of a part also 12.
     """
     map, samples = bytes(map), bytes(samples)
+    call, first = _by_chip('read', part, top, map)
     state = (ctypes.c_uint8 * SESSION_SIZE)(*bytes(session))
     records = bytearray(RECORD_SIZE * (len(samples) // 3 + 1 if room is None else room))
     count = ctypes.c_uint64()
-    _accept(_LIBRARY.couplingnut_read(map, len(map), state, *_banks_lent(active, buffer), samples, len(samples), *_lent(records),
-                                      ctypes.byref(count)))
+    _accept(call(*first, map, len(map), state, *_banks_lent(active, buffer), samples, len(samples), *_lent(records), ctypes.byref(count)))
     return Session(state), _records_of(records, count.value)
 
 
-def next_record(map, session, active, buffer, samples):
+def next_record(map, session, active, buffer, samples, part=None, top=None):
     """Reads samples up to and with the first that gives a record, or all of them: the next session, the record or None, and how many
-    samples were read. Refused: 1 to 5."""
+    samples were read. Refused: 1 to 5; of a part also 12."""
     map, samples = bytes(map), bytes(samples)
+    call, first = _by_chip('next_record', part, top, map)
     state = (ctypes.c_uint8 * SESSION_SIZE)(*bytes(session))
     records = bytearray(RECORD_SIZE)
     count, taken = ctypes.c_uint64(), ctypes.c_uint64()
-    _accept(_LIBRARY.couplingnut_next_record(map, len(map), state, *_banks_lent(active, buffer), samples, len(samples), *_lent(records),
-                                             ctypes.byref(count), ctypes.byref(taken)))
+    _accept(call(*first, map, len(map), state, *_banks_lent(active, buffer), samples, len(samples), *_lent(records), ctypes.byref(count),
+                 ctypes.byref(taken)))
     return Session(state), next(iter(_records_of(records, count.value)), None), taken.value
 
 
-def send(direction, settings, start, count, data=b'', room=MOST_SAMPLES):
-    """The samples of a run: `count` bytes from `start` on, which `data` has for a write. Refused: 7 to 11."""
+def send(direction, settings, start, count, data=b'', room=MOST_SAMPLES, part=None, top=None):
+    """The samples of a run: `count` bytes from `start` on, which `data` has for a write. Refused: 7 to 11. To a part, whose top is always
+    named: up to 3 bytes are counted, more stream; refused: 12, 7, 8, 9, 11. The samples are the same for both parts."""
+    if (part is None) != (top is None) or part is not None and part not in PARTS:
+        raise ValueError(f'an older chip is a part, {" or ".join(PARTS)}, and a top')
     data, out, samples = bytes(data), bytearray(room), ctypes.c_uint64()
-    _accept(_LIBRARY.couplingnut_send(_wide(direction, 'direction'), _wide(settings, 'settings'), _wide(start, 'start'),
-                                      _wide(count, 'count'), data, len(data), *_lent(out), ctypes.byref(samples)))
+    order = (_wide(direction, 'direction'), _wide(settings, 'settings'), _wide(start, 'start'), _wide(count, 'count'), data, len(data),
+             *_lent(out), ctypes.byref(samples))
+    _accept(_LIBRARY.couplingnut_send(*order) if part is None else _LIBRARY.couplingnut_send_older(_wide(top, 'top'), *order))
     return bytes(out[:samples.value])
 
 

@@ -16,6 +16,20 @@ WRITTEN = cn.Record(1, 0x000A, 0x3C, 0x3C, 1, 0x3C)
 WRITTEN_AGAIN = WRITTEN._replace(moved=0)
 
 
+def older_map(*control):
+    """A map of addresses up to 0x2C: control at these places, a buffered register at 0x0010 with default 0x11, and plain ones."""
+    entries = [b'\4\0\0' if a in control else b'\3\xFF\x11' if a == 0x10 else b'\2\xFF\0' for a in range(0x2D)]
+    return (3 + 3 * 0x2D).to_bytes(2, 'big') + b'\1\0\x2D' + b''.join(entries)
+
+
+AD9557_MAP, AD9508_MAP = older_map(0x00, 0x04, 0x05), older_map(0x00, 0x05)
+
+
+def opened_part(map, part):
+    active, buffer = cn.banks(map)
+    return cn.open(map, active, buffer, part=part), active, buffer
+
+
 def opened():
     active, buffer = cn.banks(MAP)
     return cn.open(MAP, active, buffer), active, buffer
@@ -85,9 +99,9 @@ class Couplingnut(unittest.TestCase):
         session, active, buffer = opened()
         self.assertEqual(bytes(active), MAP[7::3])
         self.assertEqual(active, buffer)
-        self.assertEqual((session.version, session.last_csb, session.last_sclk, session.phase), (2, 1, 0, 'rest'))
+        self.assertEqual((session.version, session.last_csb, session.last_sclk, session.phase), (3, 1, 0, 'rest'))
         self.assertEqual((session.bits, session.value, session.address, session.direction), (0, 0, 0, cn.WRITE))
-        self.assertFalse(any(session.settings) or any(session.settings_in_use))
+        self.assertFalse(any(session.settings) or any(session.settings_in_use) or session.left or session.stalled)
 
     def test_open_refused(self):
         """opening refused leaves the banks as they were"""
@@ -149,7 +163,7 @@ class Couplingnut(unittest.TestCase):
         unsound = bytes(session)[:1] + b'\0' + bytes(session)[2:]
         for call in (cn.read, cn.next_record):
             self.assert_refused(1, call, MAP, cn.Session(unsound), *banks, SCRATCH_WRITE)
-            self.assert_refused(1, call, MAP, cn.Session(b'\1' + bytes(session)[1:]), *banks, SCRATCH_WRITE)
+            self.assert_refused(1, call, MAP, cn.Session(b'\2' + bytes(session)[1:]), *banks, SCRATCH_WRITE)
             self.assert_refused(2, call, b'', session, *banks, SCRATCH_WRITE)
             self.assert_refused(3, call, MAP[:-3] + b'\0\0\0', session, *banks, SCRATCH_WRITE)
             self.assert_refused(4, call, MAP, session, banks[0], bytearray(17), SCRATCH_WRITE)
@@ -174,7 +188,7 @@ class Couplingnut(unittest.TestCase):
         self.assertEqual(session.settings_in_use, cn.SettingsInUse(False, True, True, False))
         again = cn.Session(bytes(session))
         self.assertTrue(again == session and hash(again) == hash(session) and eval(repr(session), {'Session': cn.Session}) == session)
-        self.assertRaises(ValueError, cn.Session, b'\1' * 20)
+        self.assertRaises(ValueError, cn.Session, b'\1' * 19)
 
     def test_send(self):
         """sending, and each of its refusals"""
@@ -256,6 +270,79 @@ class Couplingnut(unittest.TestCase):
         self.assertEqual(list(cn.cut_orders(b''.join(orders))), [b''.join(orders)])
         self.assertEqual(list(cn.cut_orders(b'')), [])
 
+    def test_older_maps(self):
+        """a map of each older part"""
+        for part, map, other in [('AD9557', AD9557_MAP, AD9508_MAP), ('AD9508', AD9508_MAP, AD9557_MAP)]:
+            cn.map_test(map, part=part)
+            cn.map_test(map, part=part, top=0x2C)
+            self.assert_refused(12, cn.map_test, map, part=part, top=0x2B)
+            self.assert_refused(3, cn.map_test, other, part=part, top=0x2B)
+            self.assert_refused(3, cn.map_test, map)
+            self.assert_refused(3, cn.map_test, MAP, part=part)
+            self.assert_refused(2, cn.map_test, b'', part=part)
+            banks = cn.banks(map)
+            self.assert_refused(12, cn.open, map, *banks, part=part, top=2 ** 64 - 1)
+            self.assert_refused(4, cn.open, map, banks[0], bytearray(44), part=part, top=0)
+            self.assertEqual(cn.open(map, *banks, part=part), opened()[0])
+
+    def test_older_send(self):
+        """sending to an older chip"""
+        for part in cn.PARTS:
+            named = {'part': part, 'top': 0x2C}
+            sent = [cn.send(cn.READ, 0, 0x2C, count, **named) for count in (1, 2, 3, 4)]
+            self.assertEqual([len(samples) for samples in sent], [51, 67, 83, 99])
+            # The third and the fifth sample are the lengths' bits, high when 4.
+            self.assertEqual([(s[3], s[5]) for s in sent], [(0, 0), (0, 4), (4, 0), (4, 4)])
+            self.assert_refused(12, cn.send, 2, 8, 0x8000, 0, part=part, top=0x000E)
+            self.assert_refused(7, cn.send, cn.READ, cn.ASCENDING, 0x2C, 1, **named)
+            self.assert_refused(8, cn.send, cn.READ, 0, 0x2D, 1001, **named)
+            self.assert_refused(9, cn.send, cn.READ, 0, 1, 3, **named)
+            self.assert_refused(9, cn.send, cn.READ, cn.LSB_FIRST, 0x2C, 2, **named)
+            self.assert_refused(11, cn.send, cn.READ, 0, 1, 1, room=50, **named)
+
+    def test_older_read(self):
+        """an older chip's runs: a count, a stall, and bits that are passed over"""
+        for part, map in (('AD9557', AD9557_MAP), ('AD9508', AD9508_MAP)):
+            run = cn.send(cn.WRITE, 0, 0x15, 2, [0x3C, 0x5A], part=part, top=0x2C)
+            session, *banks = opened_part(map, part)
+            after, records = cn.read(map, session, *banks, run, part=part)
+            self.assertEqual([str(record) for record in records], ['W 0015 3C 3C 1 3C', 'W 0014 5A 5A 1 5A'])
+            self.assertEqual((after, banks[0][0x14:0x16]), (session, b'\x5A\x3C'))
+            # The select rises after the first byte, which is whole at its 49th sample, and falls again.
+            stalled, records = cn.read(map, session, *banks, run[:49] + b'\1\1', part=part)
+            self.assertEqual((len(records), stalled.phase, stalled.left, stalled.stalled), (1, 'data', 1, True))
+            self.assert_refused(1, cn.read, MAP, stalled, *opened()[1:], run)
+            resumed, record, taken = cn.next_record(map, stalled, *banks, b'\0' + run[49:] + b'\1', part=part)
+            self.assertEqual((record.address, taken, resumed.phase, resumed.last_csb), (0x0014, 17, 'rest', 0))
+            self.assert_refused(1, cn.read, MAP, resumed, *opened()[1:], run)
+            # A streaming run ends at 0, and what follows is passed over.
+            streamed = cn.send(cn.READ, 0, 3, 4, part=part, top=0x2C)
+            after, records = cn.read(map, session, *banks, streamed[:-2] + b'\0\2' * 9 + streamed[-2:], part=part)
+            self.assertEqual(([record.address for record in records], after), ([3, 2, 1, 0], session))
+
+    def test_older_stages(self):
+        """the buffer stage of the older parts"""
+        due = {}
+        for part, map in (('AD9557', AD9557_MAP), ('AD9508', AD9508_MAP)):
+            session, *banks = opened_part(map, part)
+            orders = [(cn.WRITE, 0x10, [0x22]), (cn.WRITE, 0x04, [1]), (cn.READ, 0x10, []), (cn.WRITE, 0x05, [1]), (cn.WRITE, 0x00, [0x40])]
+            recording = b''.join(cn.send(d, 0, a, 1, v, part=part, top=0x2C) for d, a, v in orders)
+            session, records = cn.read(map, session, *banks, recording, part=part)
+            due[part] = records[2].byte3
+            self.assertEqual([str(records[i]) for i in (0, 3, 4)], ['W 0010 22 22 2 33', 'W 0005 01 00 4 00', 'W 0000 40 40 3 00'])
+            self.assertEqual((banks[0][0x10], session.settings.lsb_first), (0x22, True))
+        self.assertEqual(due, {'AD9557': 0x22, 'AD9508': 0x11})
+
+    def test_parts(self):
+        """no other part, and no top alone"""
+        session, *banks = opened()
+        self.assertRaises(ValueError, cn.map_test, MAP, part='AD9558')
+        self.assertRaises(ValueError, cn.open, MAP, *banks, top=15)
+        self.assertRaises(ValueError, cn.read, MAP, session, *banks, b'', part='AD9508', top=-1)
+        self.assertRaises(ValueError, cn.send, cn.READ, 0, 0, 1, part='AD9508')
+        self.assertRaises(ValueError, cn.send, cn.READ, 0, 0, 1, top=15)
+        self.assertRaises(ValueError, cn.send, cn.READ, 0, 0, 1, part='ad9508', top=15)
+
     def test_overlap(self):
         """banks that overlap are not handed over"""
         session, active, _ = opened()
@@ -266,7 +353,7 @@ class Couplingnut(unittest.TestCase):
 
     def test_message(self):
         """each number has words of its own"""
-        given = [*range(12), 13, 14, 15, 18, 19]
+        given = [*range(16), 18, 19]
         self.assertEqual(len({cn.message(number) for number in given + [2 ** 32 - 1]}), len(given) + 1)
 
 

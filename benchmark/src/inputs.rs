@@ -1,8 +1,10 @@
 //! What is read, sent and tested: maps and recordings, the same in every run.
 
-use couplingnut_tests::chip::{sent, Chip};
+use couplingnut_tests::chip::{sent, sent_older, Chip};
 use couplingnut_tests::generate::maps::{good_entries, map_of};
+use couplingnut_tests::generate::older::maps::good_older_map;
 use couplingnut_tests::generate::random::Random;
+use couplingnut_tests::second::older::{Older, Part};
 use couplingnut_tests::second::sender::Order;
 
 const CSB: u8 = 1;
@@ -12,6 +14,11 @@ const FIRST_START: usize = 0x0020;
 
 pub fn map(count: usize) -> Vec<u8> {
     map_of(&good_entries(&mut Random::new(count as u64), count))
+}
+
+/// The map of an AD9557 with 512 registers.
+pub fn older_map() -> Vec<u8> {
+    good_older_map(&mut Random::new(512), Older { part: Part::Ad9557, top: 511 })
 }
 
 /// A bus master: it knows the settings that it has set, as an order names them.
@@ -108,6 +115,21 @@ pub fn dense(settings: u64, length: usize) -> Vec<u8> {
         master.set(settings);
     }
     master.recording(length, |master| master.write_some(16))
+}
+
+/// Writes of so many bytes to an older chip of 512 registers, one after another.
+pub fn older(least: usize, most: usize, length: usize) -> Vec<u8> {
+    let mut random = Random::new(5);
+    let mut samples = Vec::new();
+    while samples.len() < length {
+        let start = random.between(FIRST_START, 511 - most) as u64;
+        let count = random.between(least, most);
+        let data = random.bytes(count);
+        let order = Order { direction: 0, settings: 0, start, count: count as u64, data: &data };
+        samples.extend(sent_older(511, &order));
+    }
+    samples.truncate(length);
+    samples
 }
 
 /// Reads and writes in all settings, some broken off, with the bus idle now and then.

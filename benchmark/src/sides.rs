@@ -6,8 +6,9 @@
 
 use couplingnut_tests::library;
 use couplingnut_tests::second::map::map_test;
-use couplingnut_tests::second::reader::{open, read};
-use couplingnut_tests::second::sender::{send, Order};
+use couplingnut_tests::second::older::{Older, Part};
+use couplingnut_tests::second::reader::{self, open, read};
+use couplingnut_tests::second::sender::{self, send, Order};
 
 #[derive(Clone, Copy, Debug, PartialEq, Eq)]
 pub enum Side {
@@ -104,6 +105,91 @@ fn second_read(map: &[u8], samples: &[u8], space: &mut Space) {
     (space.number, space.count) = (answer.number.into(), answer.count as u64);
 }
 
+/// The same of an AD9557.
+pub fn read_older_by(side: Side, top: u64, map: &[u8], samples: &[u8], space: &mut Space) {
+    match side {
+        Side::Proved => proved_read_older(top, map, samples, space),
+        Side::Second => second_read_older(top, map, samples, space),
+    }
+}
+
+#[cfg(benchmark_library)]
+fn proved_read_older(top: u64, map: &[u8], samples: &[u8], space: &mut Space) {
+    extern "C" {
+        fn benchmark_read_older(
+            top: u64,
+            map: *const u8,
+            map_length: usize,
+            active: *mut u8,
+            active_length: usize,
+            buffer: *mut u8,
+            buffer_length: usize,
+            samples: *const u8,
+            samples_length: usize,
+            records: *mut u8,
+            records_length: usize,
+            count: *mut u64,
+        ) -> u32;
+    }
+
+    let Space { active, buffer, out, count, .. } = space;
+    // SAFETY: as in `proved_read`.
+    space.number = unsafe {
+        benchmark_read_older(
+            top,
+            map.as_ptr(),
+            map.len(),
+            active.as_mut_ptr(),
+            active.len(),
+            buffer.as_mut_ptr(),
+            buffer.len(),
+            samples.as_ptr(),
+            samples.len(),
+            out.as_mut_ptr(),
+            out.len(),
+            count,
+        )
+    };
+}
+
+/// Stands in where the library is missing.
+#[cfg(not(benchmark_library))]
+fn proved_read_older(_: u64, _: &[u8], _: &[u8], _: &mut Space) {
+    panic!("libbenchmark.a is missing; build it first: make bench")
+}
+
+#[no_mangle]
+#[inline(never)]
+fn second_read_older(top: u64, map: &[u8], samples: &[u8], space: &mut Space) {
+    let older = Older { part: Part::Ad9557, top };
+    let Space { active, buffer, out, .. } = space;
+    let (number, mut session) = reader::open_by(older, map, active, buffer);
+    if number != 0 {
+        (space.number, space.count) = (number.into(), 0);
+        return;
+    }
+    let answer = reader::read_by(older, map, &mut session, active, buffer, samples, out);
+    (space.number, space.count) = (answer.number.into(), answer.count as u64);
+}
+
+/// The same to an older chip.
+pub fn send_older_by(side: Side, top: u64, order: &Order, space: &mut Space) {
+    match side {
+        Side::Proved => {
+            let sent = library::older::send(top, order, &mut space.out, &mut space.count);
+            space.number = sent.expect("the library is there");
+        }
+        Side::Second => second_send_older(top, order, space),
+    }
+}
+
+#[no_mangle]
+#[inline(never)]
+fn second_send_older(top: u64, order: &Order, space: &mut Space) {
+    let answer = sender::send_older(top, order, &mut space.out);
+    (space.number, space.count) = (answer.number.into(), answer.count as u64);
+}
+
 pub fn send_by(side: Side, order: &Order, space: &mut Space) {
     match side {
         Side::Proved => (space.number, space.count) = library::send(order, &mut space.out),
@@ -128,5 +214,5 @@ pub fn test_by(side: Side, map: &[u8], space: &mut Space) {
 #[no_mangle]
 #[inline(never)]
 fn second_map_test(map: &[u8]) -> u32 {
-    map_test(map).into()
+    map_test(std::hint::black_box(map)).into()
 }

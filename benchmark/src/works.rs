@@ -1,12 +1,12 @@
 //! The works of the table: what one call does, and how much slower than the
 //! second implementation it may be.
 
-use couplingnut_tests::chip::sent;
+use couplingnut_tests::chip::{sent, sent_older};
 use couplingnut_tests::second::reader::RECORD;
 use couplingnut_tests::second::sender::Order;
 
 use crate::inputs;
-use crate::sides::{read_by, send_by, test_by, Side, Space};
+use crate::sides::{read_by, read_older_by, send_by, send_older_by, test_by, Side, Space};
 
 /// The most samples of one call.
 pub const SAMPLES: usize = 65_536;
@@ -16,6 +16,10 @@ const MOST_REGISTERS: usize = 8_192;
 const ORDERED: usize = 1_000;
 const ORDERED_SAMPLES: usize = 48_003;
 const START: u64 = 0x2000;
+/// The last address of the older chip that is read, and of the one that is sent to.
+const TOP: u64 = REGISTERS as u64 - 1;
+const MOST_TOP: u64 = 0x1FFF;
+const OLDER_START: u64 = 0x0100;
 
 /// How much of the second implementation's time a work may take, and is hoped to.
 #[derive(Clone, Copy)]
@@ -29,6 +33,9 @@ impl Limit {
     pub const NONE: Limit = Limit { most: f64::INFINITY, stretch: f64::INFINITY };
 }
 
+/// Of every work of the older chips.
+const OLDER: Limit = Limit { most: 1.2, stretch: 1.0 };
+
 pub struct Work {
     pub name: &'static str,
     pub limit: Limit,
@@ -38,9 +45,21 @@ pub struct Work {
 }
 
 enum Job {
-    Read { map: Vec<u8>, samples: Vec<u8>, room: usize },
-    Send { settings: u64, data: Vec<u8> },
-    Test { map: Vec<u8> },
+    /// By an AD9557 with this top, or by a newer chip.
+    Read {
+        top: Option<u64>,
+        map: Vec<u8>,
+        samples: Vec<u8>,
+        room: usize,
+    },
+    Send {
+        top: Option<u64>,
+        settings: u64,
+        data: Vec<u8>,
+    },
+    Test {
+        map: Vec<u8>,
+    },
 }
 
 impl Work {
@@ -48,22 +67,35 @@ impl Work {
     pub fn read(name: &'static str, limit: Limit, registers: usize, samples: Vec<u8>) -> Self {
         let room = RECORD * samples.len().div_ceil(3);
         let (map, units) = (inputs::map(registers), samples.len());
-        Work { name, limit, units, job: Job::Read { map, samples, room } }
+        Work { name, limit, units, job: Job::Read { top: None, map, samples, room } }
     }
 
-    /// The same with the room that the records take and no more, so that they
+    /// The same by an older chip.
+    fn read_older(name: &'static str, samples: Vec<u8>) -> Self {
+        let room = RECORD * samples.len().div_ceil(3);
+        let (map, units) = (inputs::older_map(), samples.len());
+        Work { name, limit: OLDER, units, job: Job::Read { top: Some(TOP), map, samples, room } }
+    }
+
+    /// Reading with the room that the records take and no more, so that they
     /// have to be counted first.
     fn read_counted(name: &'static str, limit: Limit, samples: Vec<u8>) -> Self {
         let (map, units) = (inputs::map(REGISTERS), samples.len());
         let room = RECORD * inputs::records(&map, &samples);
-        Work { name, limit, units, job: Job::Read { map, samples, room } }
+        Work { name, limit, units, job: Job::Read { top: None, map, samples, room } }
     }
 
     fn send(name: &'static str, settings: u64) -> Self {
         let limit = Limit { most: 1.2, stretch: 1.0 };
         let data = inputs::bytes(ORDERED);
         let units = sent(&order(settings, &data)).len();
-        Work { name, limit, units, job: Job::Send { settings, data } }
+        Work { name, limit, units, job: Job::Send { top: None, settings, data } }
+    }
+
+    fn send_older(name: &'static str, settings: u64) -> Self {
+        let data = inputs::bytes(ORDERED);
+        let units = sent_older(MOST_TOP, &older_order(settings, &data)).len();
+        Work { name, limit: OLDER, units, job: Job::Send { top: Some(MOST_TOP), settings, data } }
     }
 
     pub fn test(registers: usize) -> Self {
@@ -83,8 +115,16 @@ impl Work {
     /// One call by one side.
     pub fn call(&self, side: Side, space: &mut Space) {
         match &self.job {
-            Job::Read { map, samples, .. } => read_by(side, map, samples, space),
-            Job::Send { settings, data } => send_by(side, &order(*settings, data), space),
+            Job::Read { top: None, map, samples, .. } => read_by(side, map, samples, space),
+            Job::Read { top: Some(top), map, samples, .. } => {
+                read_older_by(side, *top, map, samples, space)
+            }
+            Job::Send { top: None, settings, data } => {
+                send_by(side, &order(*settings, data), space)
+            }
+            Job::Send { top: Some(top), settings, data } => {
+                send_older_by(side, *top, &older_order(*settings, data), space)
+            }
             Job::Test { map } => test_by(side, map, space),
         }
     }
@@ -92,10 +132,14 @@ impl Work {
     /// The symbol of the function that the call is.
     pub fn symbol(&self, side: Side) -> &'static str {
         match (&self.job, side) {
-            (Job::Read { .. }, Side::Proved) => "benchmark_read",
-            (Job::Read { .. }, Side::Second) => "second_read",
-            (Job::Send { .. }, Side::Proved) => "couplingnut_send",
-            (Job::Send { .. }, Side::Second) => "second_send",
+            (Job::Read { top: None, .. }, Side::Proved) => "benchmark_read",
+            (Job::Read { top: None, .. }, Side::Second) => "second_read",
+            (Job::Read { .. }, Side::Proved) => "benchmark_read_older",
+            (Job::Read { .. }, Side::Second) => "second_read_older",
+            (Job::Send { top: None, .. }, Side::Proved) => "couplingnut_send",
+            (Job::Send { top: None, .. }, Side::Second) => "second_send",
+            (Job::Send { .. }, Side::Proved) => "couplingnut_send_older",
+            (Job::Send { .. }, Side::Second) => "second_send_older",
             (Job::Test { .. }, Side::Proved) => "couplingnut_map_test",
             (Job::Test { .. }, Side::Second) => "second_map_test",
         }
@@ -116,8 +160,15 @@ fn order(settings: u64, data: &[u8]) -> Order<'_> {
     Order { direction: 0, settings, start: START, count: data.len() as u64, data }
 }
 
+/// To an older chip a run may not wrap; lowest bit first it goes up from here,
+/// and highest first down from its end.
+fn older_order(settings: u64, data: &[u8]) -> Order<'_> {
+    let start = if settings == 1 { OLDER_START } else { OLDER_START + ORDERED as u64 };
+    Order { direction: 0, settings, start, count: data.len() as u64, data }
+}
+
 /// The works of one call each, in the order of the table.
-const NAMES: [&str; 14] = [
+const NAMES: [&str; 19] = [
     "read-dense",
     "read-dense-lsb",
     "read-single",
@@ -132,6 +183,11 @@ const NAMES: [&str; 14] = [
     "send-single-msb",
     "send-single-lsb",
     "map-test",
+    "older-dense",
+    "older-counted",
+    "older-random",
+    "older-send-msb",
+    "older-send-lsb",
 ];
 
 pub fn works() -> impl Iterator<Item = Work> {
@@ -161,6 +217,11 @@ pub fn work(name: &str) -> Option<Work> {
         "send-single-msb" => Work::send(name, 4),
         "send-single-lsb" => Work::send(name, 5),
         "map-test" => Work::test(MOST_REGISTERS),
+        "older-dense" => Work::read_older(name, inputs::older(4, 16, SAMPLES)),
+        "older-counted" => Work::read_older(name, inputs::older(1, 3, SAMPLES)),
+        "older-random" => Work::read_older(name, inputs::noise(SAMPLES)),
+        "older-send-msb" => Work::send_older(name, 0),
+        "older-send-lsb" => Work::send_older(name, 1),
         _ => return None,
     })
 }

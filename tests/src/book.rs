@@ -1,4 +1,5 @@
-//! The book of document 01's stopped run, written down directly.
+//! The book of document 01's stopped run, written down directly; for older chips as
+//! document 02, Ask 1 has it.
 
 use crate::chip::Chip;
 use crate::generate::maps::entry_at;
@@ -6,6 +7,7 @@ use crate::second::sender::Order;
 
 /// The two banks, and the writes of whole bytes by the writing rule.
 struct Book<'a> {
+    is_older: bool,
     map: &'a [u8],
     active: Vec<u8>,
     buffer: Vec<u8>,
@@ -27,6 +29,8 @@ impl Book<'_> {
         match self.entry(address) {
             Some(&[2, mask, _]) => self.active[address] = masked(self.active[address], mask),
             Some(&[3, mask, _]) => self.buffer[address] = masked(self.buffer[address], mask),
+            Some(&[4, ..]) if self.is_older && address == 0x0005 && v % 2 == 1 => self.transfer(),
+            Some(&[4, ..]) if self.is_older => {}
             Some(&[4, ..]) if address == 0x0000 && v % 2 == 1 && is_mirror(v) => self.reset(),
             Some(&[4, ..]) if address == 0x000F && v % 2 == 1 => self.transfer(),
             _ => {}
@@ -58,7 +62,10 @@ fn is_mirror(v: u8) -> bool {
 /// The banks after the order's bytes that are whole when s samples were sent.
 pub fn book(chip: &Chip, order: &Order, s: usize) -> (Vec<u8>, Vec<u8>) {
     let (active, buffer) = (chip.active.clone(), chip.buffer.clone());
-    let mut book = Book { map: &chip.map, active, buffer };
+    let is_older = chip.older.is_some();
+    let mut book = Book { is_older, map: &chip.map, active, buffer };
+    // An older chip goes up lowest bit first.
+    let ascending = if is_older { order.settings & 1 } else { order.settings & 2 };
     let mut address = order.start as usize;
     for (i, &v) in (1..).zip(order.data) {
         let whole = if order.settings & 4 == 0 { 33 + 16 * i } else { 48 * i + 1 };
@@ -66,7 +73,7 @@ pub fn book(chip: &Chip, order: &Order, s: usize) -> (Vec<u8>, Vec<u8>) {
             break;
         }
         book.write(address, v);
-        address = (address + if order.settings & 2 == 0 { 0x7FFF } else { 1 }) % 0x8000;
+        address = (address + if ascending == 0 { 0x7FFF } else { 1 }) % 0x8000;
     }
     (book.active, book.buffer)
 }

@@ -8,6 +8,7 @@ use crate::calls::{Call, Given, Memory};
 use crate::layout::{from_bytes, to_bytes, SESSION_SIZE};
 use crate::library;
 use crate::made::{agreed, Agreed};
+use crate::second::older::Older;
 use crate::second::sender::Order;
 use crate::second::session::Session;
 use crate::second::{converter, frames, map, mend, reader, sender, setup, Answer};
@@ -21,8 +22,32 @@ pub fn map_test(bytes: &[u8]) -> u8 {
     number
 }
 
+/// The number of an older chip's map, with the part and top that are named.
+pub fn map_test_older(older: Older, map: &[u8]) -> u8 {
+    let second = |[map]: [&mut [u8]; 1]| Answer { number: map::map_test_by(older, map), count: 0 };
+    let product = |[map]: [&mut [u8]; 1], length: &mut u64| {
+        *length = 0;
+        library::older::map_test(older, map)
+    };
+    match agreed([map], second, product) {
+        Ok((answer, _)) => answer.number,
+        Err(difference) => panic!("{older:X?}: {difference}"),
+    }
+}
+
 pub fn open(map: &[u8], active: &mut [u8], buffer: &mut [u8]) -> (u8, Session) {
+    open_by(None, map, active, buffer)
+}
+
+/// The same for any chip.
+pub fn open_by(
+    older: Option<Older>,
+    map: &[u8],
+    active: &mut [u8],
+    buffer: &mut [u8],
+) -> (u8, Session) {
     assert_library_agrees(Call::Open, || Given {
+        older,
         map: map.to_vec(),
         session: [0xEE; SESSION_SIZE],
         active: active.to_vec(),
@@ -30,11 +55,15 @@ pub fn open(map: &[u8], active: &mut [u8], buffer: &mut [u8]) -> (u8, Session) {
         samples: Vec::new(),
         records: Vec::new(),
     });
-    reader::open(map, active, buffer)
+    match older {
+        None => reader::open(map, active, buffer),
+        Some(older) => reader::open_by(older, map, active, buffer),
+    }
 }
 
 /// A session that C can't hand over is left to the second implementation.
-pub fn read(
+pub fn read_by(
+    older: Option<Older>,
     map: &[u8],
     session: &mut Session,
     active: &mut [u8],
@@ -44,6 +73,7 @@ pub fn read(
 ) -> Answer {
     if from_bytes(&to_bytes(session)) == Some(*session) {
         assert_library_agrees(Call::Read, || Given {
+            older,
             map: map.to_vec(),
             session: to_bytes(session),
             active: active.to_vec(),
@@ -52,7 +82,10 @@ pub fn read(
             records: records.to_vec(),
         });
     }
-    reader::read(map, session, active, buffer, samples, records)
+    match older {
+        None => reader::read(map, session, active, buffer, samples, records),
+        Some(older) => reader::read_by(older, map, session, active, buffer, samples, records),
+    }
 }
 
 fn assert_library_agrees(call: Call, given: impl Fn() -> Given) {
@@ -62,7 +95,9 @@ fn assert_library_agrees(call: Call, given: impl Fn() -> Given) {
     if library::PRESENT {
         let given = given();
         let left = MEMORY.with_borrow_mut(|memory| memory.product(call, &given));
-        assert_eq!(left, given.expected(call), "the library's {call:?} of {given:02X?}");
+        if let Some(left) = left {
+            assert_eq!(left, given.expected(call), "the library's {call:?} of {given:02X?}");
+        }
     }
 }
 
@@ -76,6 +111,19 @@ pub fn send(order: &Order, outgoing: &mut [u8]) -> Answer {
         assert!(again == outgoing, "other samples from the library: {order:X?}");
     }
     answer
+}
+
+pub fn send_older(top: u64, order: &Order, out: &mut [u8]) -> Answer {
+    keep_last(try_send_older(top, order, out), out)
+}
+
+/// The same, which tells a difference.
+pub fn try_send_older(top: u64, order: &Order, out: &[u8]) -> Agreed<2> {
+    let second = |[_, out]: [&mut [u8]; 2]| sender::send_older(top, order, out);
+    let product = |[data, out]: [&mut [u8]; 2], samples: &mut u64| {
+        library::older::send(top, &Order { data, ..*order }, out, samples)
+    };
+    agreed([order.data, out], second, product)
 }
 
 pub fn to_version_1(map: &[u8], out: &mut [u8]) -> Answer {

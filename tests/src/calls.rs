@@ -9,7 +9,9 @@ use crate::generate::maps::count_of;
 use crate::guarded::{Against, Guarded};
 use crate::layout::{from_bytes, to_bytes, SessionBytes, SESSION_SIZE};
 use crate::library::{self, Lent};
+use crate::second::older::Older;
 use crate::second::reader::{self, CUT, READ, RECORD};
+use crate::second::rules::Rules;
 use crate::second::session::Session;
 use crate::second::Answer;
 
@@ -34,6 +36,8 @@ impl Call {
 /// What a call is given. Opening leaves samples and records alone.
 #[derive(Clone, Debug, PartialEq, Eq)]
 pub struct Given {
+    /// Part and top, if the call is that of an older chip.
+    pub older: Option<Older>,
     pub map: Vec<u8>,
     pub session: SessionBytes,
     pub active: Vec<u8>,
@@ -60,8 +64,14 @@ pub struct Left {
 impl Given {
     /// A call that nothing refuses: a good map after opening, and no samples.
     pub fn opened(map: &[u8]) -> Self {
+        Given::opened_by(None, map)
+    }
+
+    /// The same for any chip.
+    pub fn opened_by(older: Option<Older>, map: &[u8]) -> Self {
         let count = count_of(map);
         let mut given = Given {
+            older,
             map: map.to_vec(),
             session: [0; SESSION_SIZE],
             active: vec![0; count],
@@ -80,6 +90,15 @@ impl Given {
         self.session = left.session;
         self.active.clone_from(&left.active);
         self.buffer.clone_from(&left.buffer);
+    }
+
+    /// Whether the session is one, and sound for the chip that is named.
+    pub fn is_sound(&self) -> bool {
+        match (from_bytes(&self.session), self.older) {
+            (None, _) => false,
+            (Some(session), None) => session.is_sound(),
+            (Some(session), Some(older)) => older.is_sound(&session),
+        }
     }
 
     /// How many records the samples have, if nothing but their room refuses
@@ -107,7 +126,11 @@ impl Given {
     pub fn expected(&self, call: Call) -> Left {
         let mut left = self.untouched(1);
         if call == Call::Open {
-            let opened = reader::open(&self.map, &mut left.active, &mut left.buffer);
+            let Left { active, buffer, .. } = &mut left;
+            let opened = match self.older {
+                None => reader::open(&self.map, active, buffer),
+                Some(older) => reader::open_by(older, &self.map, active, buffer),
+            };
             left.number = u32::from(opened.0);
             left.session = to_bytes(&opened.1);
         } else if let Some(session) = from_bytes(&self.session) {
@@ -117,23 +140,33 @@ impl Given {
     }
 
     fn listing(&self) -> String {
-        lines(&[
-            ("map", &self.map),
-            ("session", &self.session),
-            ("active", &self.active),
-            ("buffer", &self.buffer),
-            ("samples", &self.samples),
-            ("records", &self.records),
-        ])
+        let named = self.older.map_or(String::new(), |older| format!("{older:X?}\n"));
+        named
+            + &lines(&[
+                ("map", &self.map),
+                ("session", &self.session),
+                ("active", &self.active),
+                ("buffer", &self.buffer),
+                ("samples", &self.samples),
+                ("records", &self.records),
+            ])
     }
 
     fn expect_read(&self, call: Call, mut session: Session, left: &mut Left) {
         let Given { map, samples, .. } = self;
         let Left { active, buffer, records, .. } = left;
         let next = &mut session;
-        let (Answer { number, count }, taken) = match call {
-            Call::NextRecord => reader::next_record(map, next, active, buffer, samples, records),
-            _ => (reader::read(map, next, active, buffer, samples, records), 0),
+        let (Answer { number, count }, taken) = match (call, self.older) {
+            (Call::NextRecord, None) => {
+                reader::next_record(map, next, active, buffer, samples, records)
+            }
+            (Call::NextRecord, Some(older)) => {
+                reader::next_record_by(older, map, next, active, buffer, samples, records)
+            }
+            (_, None) => (reader::read(map, next, active, buffer, samples, records), 0),
+            (_, Some(older)) => {
+                (reader::read_by(older, map, next, active, buffer, samples, records), 0)
+            }
         };
         left.number = u32::from(number);
         left.count = count as u64;
@@ -185,8 +218,8 @@ impl Default for Memory {
 }
 
 impl Memory {
-    /// What the library makes of the call.
-    pub fn product(&mut self, call: Call, given: &Given) -> Left {
+    /// What the library makes of the call, if it has it.
+    pub fn product(&mut self, call: Call, given: &Given) -> Option<Left> {
         let session = self.session.hold(&given.session, self.against);
         let mut lent = Lent {
             map: self.map.hold(&given.map, self.against),
@@ -198,21 +231,24 @@ impl Memory {
             count: self.count.hold_number(NOT_WRITTEN, self.against),
             taken: self.taken.hold_number(NOT_WRITTEN, self.against),
         };
-        let (number, has_count, has_taken) = match call {
-            Call::Open => (library::open(&mut lent), false, false),
-            Call::Read => (library::read(&mut lent), true, false),
-            Call::NextRecord => (library::next_record(&mut lent), true, true),
+        let number = match (call, given.older) {
+            (Call::Open, None) => library::open(&mut lent),
+            (Call::Read, None) => library::read(&mut lent),
+            (Call::NextRecord, None) => library::next_record(&mut lent),
+            (Call::Open, Some(older)) => library::older::open(older, &mut lent)?,
+            (Call::Read, Some(older)) => library::older::read(older, &mut lent)?,
+            (Call::NextRecord, Some(older)) => library::older::next_record(older, &mut lent)?,
         };
-        Left {
+        Some(Left {
             number,
-            count: if has_count { *lent.count } else { 0 },
-            taken: if has_taken { *lent.taken } else { 0 },
+            count: if call != Call::Open { *lent.count } else { 0 },
+            taken: if call == Call::NextRecord { *lent.taken } else { 0 },
             session: *lent.session,
             active: lent.active.to_vec(),
             buffer: lent.buffer.to_vec(),
             records: lent.records.to_vec(),
             inputs_kept: lent.map == given.map && lent.samples == given.samples,
-        }
+        })
     }
 }
 
@@ -222,7 +258,7 @@ impl Memory {
 pub struct Tally {
     pub calls: u64,
     /// How often each call gave each number.
-    pub numbers: [[u64; 7]; 3],
+    pub numbers: [[u64; 13]; 3],
     pub writes_by_effect: [u64; 6],
     /// The same writes without and with bits that moved.
     pub moves_by_effect: [[u64; 2]; 6],
@@ -249,12 +285,14 @@ impl Tally {
         }
     }
 
-    /// That every kind of record was met so often.
-    pub fn assert_records(&self, times: u64) {
+    /// That every kind of record was met so often, with so many effects.
+    pub fn assert_records(&self, effects: usize, times: u64) {
         let met = |what: &str, counts: &[u64]| {
             assert!(counts.iter().all(|&count| count >= times), "{what}: {counts:?}");
         };
-        met("writes by effect", &self.writes_by_effect);
+        let (due, others) = self.writes_by_effect.split_at(effects);
+        met("writes by effect", due);
+        assert_eq!(others.iter().sum::<u64>(), 0, "writes of no such effect");
         met("plain writes without and with moves", &self.moves_by_effect[1]);
         met("buffered writes without and with moves", &self.moves_by_effect[2]);
         met("reads", &self.reads_by_difference);
@@ -297,10 +335,11 @@ impl Comparison {
         self.running.write_all_at(text.as_bytes(), 0).expect("the present seed can be kept");
     }
 
-    /// The call by both; what it left, if they agree.
+    /// The call by both; what it left, if they agree. A call that the library
+    /// lacks is the second implementation's alone.
     pub fn call(&mut self, call: Call, given: &Given) -> Left {
-        let found = self.memory.product(call, given);
         let expected = given.expected(call);
+        let found = self.memory.product(call, given).unwrap_or_else(|| expected.clone());
         if found != expected {
             self.differ(call, given, &found, &expected);
         }

@@ -1,10 +1,11 @@
 //! A chip on the bus: a map with its session and its two banks. Both sides open
 //! it, read it and send to it.
 
-use crate::both::{open, read, send};
+use crate::both::{open_by, read_by, send, send_older};
 use crate::calls::Given;
 use crate::generate::maps::count_of;
 use crate::layout::to_bytes;
+use crate::second::older::Older;
 use crate::second::reader::RECORD;
 use crate::second::sender::Order;
 use crate::second::session::Session;
@@ -17,6 +18,8 @@ const ORDERED: [Settings; 3] =
 
 #[derive(Clone, Debug, PartialEq, Eq)]
 pub struct Chip {
+    /// Part and top of an older chip.
+    pub older: Option<Older>,
     pub map: Vec<u8>,
     pub session: Session,
     pub active: Vec<u8>,
@@ -26,22 +29,28 @@ pub struct Chip {
 impl Chip {
     /// The chip after opening. The map has to be a good one.
     pub fn opened(map: &[u8]) -> Self {
+        Chip::opened_by(None, map)
+    }
+
+    /// The same for any chip.
+    pub fn opened_by(older: Option<Older>, map: &[u8]) -> Self {
         let count = count_of(map);
         let (mut active, mut buffer) = (vec![0; count], vec![0; count]);
-        let (number, session) = open(map, &mut active, &mut buffer);
+        let (number, session) = open_by(older, map, &mut active, &mut buffer);
         assert_eq!(number, 0, "the map of a chip is good");
-        Chip { map: map.to_vec(), session, active, buffer }
+        Chip { older, map: map.to_vec(), session, active, buffer }
     }
 
     /// The read call as it is.
     pub fn call(&mut self, samples: &[u8], records: &mut [u8]) -> Answer {
-        let Chip { map, session, active, buffer } = self;
-        read(map, session, active, buffer, samples, records)
+        let Chip { older, map, session, active, buffer } = self;
+        read_by(*older, map, session, active, buffer, samples, records)
     }
 
     /// What the library's calls are given for this chip.
     pub fn given(&self, samples: &[u8], records: &[u8]) -> Given {
         Given {
+            older: self.older,
             map: self.map.clone(),
             session: to_bytes(&self.session),
             active: self.active.clone(),
@@ -74,14 +83,17 @@ impl Chip {
 
     fn samples_of(&self, direction: u64, start: u16, count: usize, data: &[u8]) -> Vec<u8> {
         let named = |i: usize| u64::from(self.session.settings.has(ORDERED[i])) << i;
-        let order = Order {
-            direction,
-            settings: named(0) + named(1) + named(2),
-            start: u64::from(start),
-            count: count as u64,
-            data,
-        };
-        sent(&order)
+        let (start, count) = (u64::from(start), count as u64);
+        match self.older {
+            None => {
+                let settings = named(0) + named(1) + named(2);
+                sent(&Order { direction, settings, start, count, data })
+            }
+            Some(older) => {
+                let settings = named(0);
+                sent_older(older.top, &Order { direction, settings, start, count, data })
+            }
+        }
     }
 }
 
@@ -89,6 +101,15 @@ impl Chip {
 pub fn sent(order: &Order) -> Vec<u8> {
     let mut samples = vec![0xEE; 48_003];
     let answer = send(order, &mut samples);
+    assert_eq!(answer.number, 0, "the order is good");
+    samples.truncate(answer.count);
+    samples
+}
+
+/// The same to an older chip with this top.
+pub fn sent_older(top: u64, order: &Order) -> Vec<u8> {
+    let mut samples = vec![0xEE; 16_035];
+    let answer = send_older(top, order, &mut samples);
     assert_eq!(answer.number, 0, "the order is good");
     samples.truncate(answer.count);
     samples

@@ -1,18 +1,21 @@
-//! The session as a caller of the library holds it: nineteen bytes, by the table
-//! of the header. This is the second implementation's side of it.
+//! The session as a caller of the library holds it: twenty bytes, by the table of
+//! the header. This is the second implementation's side of it.
 
 use crate::second::session::{Phase, Session, CSB, SCLK};
 use crate::second::settings::Settings;
 
-pub const SESSION_SIZE: usize = 19;
+pub const SESSION_SIZE: usize = 20;
 
 pub type SessionBytes = [u8; SESSION_SIZE];
 
-/// The version of the layout, its first byte. Version 1 had a sixth setting.
-const VERSION: u8 = 2;
+/// The version of the layout, its first byte. Version 1 had a sixth setting, and
+/// version 2 no bytes left.
+pub const VERSION: u8 = 3;
 /// Where the settings start, and after them the settings in use.
 const SETTINGS_AT: usize = 10;
 const IN_USE_AT: usize = 15;
+/// The bytes left of an older chip's run. Every value of it is a session's.
+pub const LEFT_AT: usize = 19;
 
 /// The bytes that are 0 or 1: CSB, SCLK, the direction, and every setting.
 pub const FLAGS: [usize; 12] = [1, 2, 9, 10, 11, 12, 13, 14, 15, 16, 17, 18];
@@ -47,6 +50,7 @@ pub fn to_bytes(session: &Session) -> SessionBytes {
             bytes[IN_USE_AT + i] = u8::from(session.in_use.has(one));
         }
     }
+    bytes[LEFT_AT] = session.left;
     bytes
 }
 
@@ -65,7 +69,8 @@ pub fn from_bytes(bytes: &SessionBytes) -> Option<Session> {
         address: u16::from_be_bytes([bytes[7], bytes[8]]),
         read: bytes[9] == 1,
         settings: settings_of(&bytes[SETTINGS_AT..IN_USE_AT]),
-        in_use: settings_of(&bytes[IN_USE_AT..]),
+        in_use: settings_of(&bytes[IN_USE_AT..LEFT_AT]),
+        left: bytes[LEFT_AT],
     })
 }
 

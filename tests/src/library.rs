@@ -7,6 +7,7 @@
 pub mod converter;
 pub mod frames;
 pub mod mend;
+pub mod older;
 pub mod setup;
 
 pub use calls::{map_test, next_record, open, read, send_into};

@@ -14,6 +14,7 @@ mod layout;
 mod map_test;
 mod mend;
 mod next_record;
+mod older;
 mod reader;
 mod refusals;
 mod registers;

@@ -270,6 +270,51 @@ fn mkmap_makes_version_2_and_goes_back() {
     }
 }
 
+/// A table of an older part: control at these places, and a buffered register at the top.
+fn older_table(control: &[u16]) -> String {
+    let lines: String = control.iter().map(|at| format!("{at:04X} control 00 00\n")).collect();
+    lines + "000A read-only 00 57\n002C buffered FF 11  divider\n"
+}
+
+#[test]
+fn mkmap_makes_the_maps_of_older_parts() {
+    if !found("python3", "mkmap_makes_the_maps_of_older_parts") {
+        return;
+    }
+    let (first, second) = (older_table(&[0, 4, 5]), older_table(&[0, 5]));
+    for (part, table, other, rule) in [
+        ("AD9557", &first, &second, "line 2: before it 0004 is missing: it must be control"),
+        ("AD9508", &second, &first, "line 2: 0004 is control: only 0000 and 0005 are"),
+    ] {
+        let made = mkmap_alone(&["--part", part], table.as_bytes());
+        assert_eq!((made.words.as_str(), made.output.len()), ("", 5 + 3 * 0x2D), "{part}");
+        assert_eq!(made.output[..8], [0, 0x8A, 1, 0, 0x2D, 4, 0, 0], "{part}");
+        assert_eq!(made.output[5 + 3 * 0x2C..], [3, 0xFF, 0x11], "{part}");
+        let back = mkmap_alone(&["--part", part, "--back"], &made.output);
+        let text = String::from_utf8(back.output).unwrap();
+        assert!(text.starts_with(&format!("# {part}, top 002C\n")), "{text}");
+        assert_eq!(mkmap_alone(&["--part", part], text.as_bytes()).output, made.output);
+        let refused = mkmap_alone(&["--part", part], other.as_bytes());
+        assert!(refused.status.code() == Some(1) && refused.output.is_empty(), "{part}");
+        assert!(refused.words.contains(rule), "{part}: {}", refused.words);
+        let masked = table.replace("0000 control 00", "0000 control 40");
+        let refused = mkmap_alone(&["--part", part], masked.as_bytes());
+        assert!(refused.words.contains("line 1: 0000 is control and has mask 40"), "{part}");
+        let short = table.replace("002C", "000E");
+        let refused = mkmap_alone(&["--part", part], short.as_bytes());
+        assert!(
+            refused.words.contains("a map has 16 to 8,192 registers, and this one 15"),
+            "{part}"
+        );
+        assert_eq!(mkmap_alone(&[], table.as_bytes()).status.code(), Some(1), "{part}");
+        let newer = fs::read(example("scratch.txt")).unwrap();
+        assert_eq!(mkmap_alone(&["--part", part], &newer).status.code(), Some(1), "{part}");
+    }
+    let flagged = mkmap_alone(&["--part", "AD9508", "--flags", "1"], second.as_bytes());
+    assert_eq!(flagged.output[..6], [0, 0x8B, 2, 0, 0x2D, 1]);
+    assert_eq!(mkmap_alone(&["--part", "AD9558"], second.as_bytes()).status.code(), Some(2));
+}
+
 #[test]
 fn mkmap_asks_the_map_test() {
     if !found("python3", "mkmap_asks_the_map_test") {

@@ -43,7 +43,7 @@ fn lists_of_calls_agree() {
         tally.assert_numbers(Call::Open, &[0, 2, 3, 4], 300);
         tally.assert_numbers(Call::Read, &[0, 1, 2, 3, 4, 5, 6], 1_000);
         tally.assert_numbers(Call::NextRecord, &[0, 1, 2, 3, 4, 5, 6], 1_000);
-        tally.assert_records(200);
+        tally.assert_records(6, 200);
     }
 }
 
@@ -91,7 +91,7 @@ fn sessions_in_every_phase_and_setting_are_read_on() {
     }
     let (at_rest, in_a_piece) = (32 * 2, (16 + 8 + 8) * 32 * 16 * 2);
     assert_eq!(comparison.tally.calls, 2 * 2 * (at_rest + in_a_piece));
-    comparison.tally.assert_records(100);
+    comparison.tally.assert_records(6, 100);
 }
 
 /// The session with any value of its bits and, in data, any address, mostly one
@@ -128,7 +128,7 @@ fn the_most_samples_are_read_and_one_more_is_refused() {
             compare_longest(&mut comparison, given.clone());
         }
     }
-    assert_eq!(comparison.tally.numbers[Call::Read as usize], [8, 0, 0, 0, 0, 8, 4]);
+    assert_eq!(comparison.tally.numbers[Call::Read as usize][..7], [8, 0, 0, 0, 0, 8, 4]);
 }
 
 fn in_instruction() -> Session {

@@ -352,10 +352,6 @@ fn the_orders_are_sent_and_read_back() {
 
 /// The library on lists with nothing, one thing or several things wrong.
 #[test]
-#[cfg_attr(
-    all(host_library, not(host_frames)),
-    ignore = "left out: libcouplingnut.a has no couplingnut_fewest_frames"
-)]
 fn the_library_agrees_on_good_and_spoilt_lists() {
     library::assert_present();
     let mut given = [0; 20];

@@ -2,10 +2,12 @@
 
 use couplingnut_tests::calls::{Call, Comparison, Given};
 use couplingnut_tests::generate::maps::simple_map;
+use couplingnut_tests::generate::older::maps::simple_older_map;
 use couplingnut_tests::generate::random::Random;
 use couplingnut_tests::generate::sessions::{every_piece, sound_session, with_every_setting};
 use couplingnut_tests::guarded::Against;
-use couplingnut_tests::layout::{from_bytes, to_bytes, SessionBytes, FLAGS, PHASE_AT};
+use couplingnut_tests::layout::{from_bytes, to_bytes, SessionBytes, FLAGS, LEFT_AT, PHASE_AT};
+use couplingnut_tests::second::older::{Older, Part};
 use couplingnut_tests::second::session::{Phase, Session, SCLK};
 use couplingnut_tests::second::settings::Settings;
 
@@ -34,8 +36,10 @@ fn the_bytes_of_a_session_are_by_the_table() {
         read: true,
         settings: Settings::ASCENDING.with(Settings::BUFFER_READBACK),
         in_use: Settings::LSB_FIRST.with(Settings::SINGLE_INSTRUCTION),
+        left: 3,
     };
-    let bytes: SessionBytes = [2, 0, 1, 2, 5, 0x00, 0x13, 0x4A, 0x53, 1, 0, 1, 0, 0, 1, 1, 0, 0, 1];
+    let bytes: SessionBytes =
+        [3, 0, 1, 2, 5, 0x00, 0x13, 0x4A, 0x53, 1, 0, 1, 0, 0, 1, 1, 0, 0, 1, 3];
     assert_eq!(to_bytes(&session), bytes);
     assert_eq!(from_bytes(&bytes), Some(session));
     let with = |at: usize, value| {
@@ -43,13 +47,47 @@ fn the_bytes_of_a_session_are_by_the_table() {
         other[at] = value;
         from_bytes(&other)
     };
-    for value in (0..=255).filter(|&value| value != 2) {
+    for value in (0..=255).filter(|&value| value != 3) {
         assert_eq!(with(0, value), None, "version {value}");
+    }
+    for left in 0..=255 {
+        assert_eq!(with(LEFT_AT, left), Some(Session { left, ..session }));
     }
     for value in 2..=255 {
         assert_eq!(with(PHASE_AT, value).is_some(), value == 2, "phase {value}");
         assert!(FLAGS.iter().all(|&at| with(at, value).is_none()), "a flag of {value}");
     }
+}
+
+/// The last byte, which an older chip's runs have: bytes left, the present one
+/// included, or 4 for a stream; and the sessions that only an older chip has.
+#[test]
+fn the_bytes_left_have_their_place() {
+    let mut comparison = Comparison::new("layout::the_bytes_left_have_their_place");
+    let older = Older { part: Part::Ad9508, top: 0x002C };
+    let mut given = Given::opened_by(Some(older), &simple_older_map(older));
+    let mut leaves = |samples: &[u8], expected: SessionBytes| {
+        given.samples = samples.to_vec();
+        given.records = vec![0xEE; 60];
+        comparison.begin(0, Against::PageAfter);
+        let left = comparison.call(Call::Read, &given);
+        assert_eq!((left.number, left.session), (0, expected));
+        given.go_on(&left);
+    };
+    let counted = [&[0][..], &clocked("1 10 0000000100110", 4)].concat();
+    leaves(&counted, [3, 0, 1, 2, 0, 0, 0, 0, 0x26, 1, 0, 0, 0, 0, 0, 0, 0, 0, 0, 3]);
+    let byte = clocked("0000 0000", 4);
+    leaves(&byte, [3, 0, 1, 2, 0, 0, 0, 0, 0x25, 1, 0, 0, 0, 0, 0, 0, 0, 0, 0, 2]);
+    // Waiting, and going on.
+    leaves(&[0x01], [3, 1, 0, 2, 0, 0, 0, 0, 0x25, 1, 0, 0, 0, 0, 0, 0, 0, 0, 0, 2]);
+    leaves(&[0x00], [3, 0, 0, 2, 0, 0, 0, 0, 0x25, 1, 0, 0, 0, 0, 0, 0, 0, 0, 0, 2]);
+    leaves(&byte, [3, 0, 1, 2, 0, 0, 0, 0, 0x24, 1, 0, 0, 0, 0, 0, 0, 0, 0, 0, 1]);
+    // Passing over, and at rest.
+    leaves(&byte, [3, 0, 1, 0, 0, 0, 0, 0, 0, 0, 0, 0, 0, 0, 0, 0, 0, 0, 0, 0]);
+    leaves(&[0x01], [3, 1, 0, 0, 0, 0, 0, 0, 0, 0, 0, 0, 0, 0, 0, 0, 0, 0, 0, 0]);
+    let streaming = [&[0][..], &clocked("0 11 0000000100110", 4)].concat();
+    leaves(&streaming, [3, 0, 1, 2, 0, 0, 0, 0, 0x26, 0, 0, 0, 0, 0, 0, 0, 0, 0, 0, 4]);
+    leaves(&byte, [3, 0, 1, 2, 0, 0, 0, 0, 0x25, 0, 0, 0, 0, 0, 0, 0, 0, 0, 0, 4]);
 }
 
 /// "For each bit b, 4b then 4b + 2", on the line of this level.
@@ -74,26 +112,26 @@ fn every_field_has_its_place() {
         assert_eq!((left.number, left.session), (0, expected));
         given.go_on(&left);
     };
-    leaves(&[], [2, 1, 0, 0, 0, 0, 0, 0, 0, 0, 0, 0, 0, 0, 0, 0, 0, 0, 0]);
-    leaves(&[0x03], [2, 1, 1, 0, 0, 0, 0, 0, 0, 0, 0, 0, 0, 0, 0, 0, 0, 0, 0]);
+    leaves(&[], [3, 1, 0, 0, 0, 0, 0, 0, 0, 0, 0, 0, 0, 0, 0, 0, 0, 0, 0, 0]);
+    leaves(&[0x03], [3, 1, 1, 0, 0, 0, 0, 0, 0, 0, 0, 0, 0, 0, 0, 0, 0, 0, 0, 0]);
     // 0x42 to 0x0000: LSB first, in use from the next instruction on.
     let frame = [&[0][..], &clocked("0000 0000 0000 0000 0100 0010", SDIO), &[1]].concat();
-    leaves(&frame, [2, 1, 0, 0, 0, 0, 0, 0, 0, 0, 1, 0, 0, 0, 0, 0, 0, 0, 0]);
-    leaves(&[0x00], [2, 0, 0, 1, 0, 0, 0, 0, 0, 0, 1, 0, 0, 0, 0, 1, 0, 0, 0]);
+    leaves(&frame, [3, 1, 0, 0, 0, 0, 0, 0, 0, 0, 1, 0, 0, 0, 0, 0, 0, 0, 0, 0]);
+    leaves(&[0x00], [3, 0, 0, 1, 0, 0, 0, 0, 0, 0, 1, 0, 0, 0, 0, 1, 0, 0, 0, 0]);
     // 0x24 and then 0x18, lowest bit first, each alone.
     let frame = [&clocked("0000 0000 0000 0000 0010 0100", SDIO)[..], &[1, 0]].concat();
-    leaves(&frame, [2, 0, 0, 1, 0, 0, 0, 0, 0, 0, 0, 1, 0, 0, 0, 0, 1, 0, 0]);
+    leaves(&frame, [3, 0, 0, 1, 0, 0, 0, 0, 0, 0, 0, 1, 0, 0, 0, 0, 1, 0, 0, 0]);
     let frame = [&clocked("0000 0000 0000 0000 0001 1000", SDIO)[..], &[1, 0]].concat();
-    leaves(&frame, [2, 0, 0, 1, 0, 0, 0, 0, 0, 0, 0, 0, 1, 0, 0, 0, 0, 1, 0]);
+    leaves(&frame, [3, 0, 0, 1, 0, 0, 0, 0, 0, 0, 0, 0, 1, 0, 0, 0, 0, 1, 0, 0]);
     // 0xB0 to 0x0001: the other two. Bit 4 is none of them.
     let frame = [&clocked("0000 0000 0000 0001 1011 0000", SDIO)[..], &[1]].concat();
-    leaves(&frame, [2, 1, 0, 0, 0, 0, 0, 0, 0, 0, 0, 0, 1, 1, 1, 0, 0, 0, 0]);
-    leaves(&[0x00], [2, 0, 0, 1, 0, 0, 0, 0, 0, 0, 0, 0, 1, 1, 1, 0, 0, 1, 1]);
+    leaves(&frame, [3, 1, 0, 0, 0, 0, 0, 0, 0, 0, 0, 0, 1, 1, 1, 0, 0, 0, 0, 0]);
+    leaves(&[0x00], [3, 0, 0, 1, 0, 0, 0, 0, 0, 0, 0, 0, 1, 1, 1, 0, 0, 1, 1, 0]);
     // A read of 0x4A53, bit by bit; then two bits on SDO.
     let bits = clocked("1100 1010 0101 00", SDIO);
-    leaves(&bits, [2, 0, 1, 1, 14, 0x32, 0x94, 0, 0, 0, 0, 0, 1, 1, 1, 0, 0, 1, 1]);
+    leaves(&bits, [3, 0, 1, 1, 14, 0x32, 0x94, 0, 0, 0, 0, 0, 1, 1, 1, 0, 0, 1, 1, 0]);
     let bits = clocked("11", SDIO);
-    leaves(&bits, [2, 0, 1, 2, 0, 0, 0, 0x4A, 0x53, 1, 0, 0, 1, 1, 1, 0, 0, 1, 1]);
+    leaves(&bits, [3, 0, 1, 2, 0, 0, 0, 0x4A, 0x53, 1, 0, 0, 1, 1, 1, 0, 0, 1, 1, 0]);
     let bits = [&clocked("10", SDO)[..], &[0]].concat();
-    leaves(&bits, [2, 0, 0, 2, 2, 0, 2, 0x4A, 0x53, 1, 0, 0, 1, 1, 1, 0, 0, 1, 1]);
+    leaves(&bits, [3, 0, 0, 2, 2, 0, 2, 0x4A, 0x53, 1, 0, 0, 1, 1, 1, 0, 0, 1, 1, 0]);
 }

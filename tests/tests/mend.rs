@@ -356,10 +356,6 @@ fn compare_with_map_test(map: &[u8]) {
 
 /// The library on maps with nothing, little or everything wrong.
 #[test]
-#[cfg_attr(
-    all(host_library, not(host_mend)),
-    ignore = "left out: libcouplingnut.a has no couplingnut_mend"
-)]
 fn the_library_agrees_on_good_and_typed_maps() {
     library::assert_present();
     let mut given = [0; 19];

@@ -8,7 +8,7 @@ use couplingnut_tests::generate::random::Random;
 use couplingnut_tests::generate::sessions::{every_piece, unsound_sessions};
 use couplingnut_tests::generate::traces::trace;
 use couplingnut_tests::guarded::Against;
-use couplingnut_tests::layout::{to_bytes, SessionBytes, FLAGS, PHASE_AT, SESSION_SIZE};
+use couplingnut_tests::layout::{to_bytes, SessionBytes, FLAGS, LEFT_AT, PHASE_AT, SESSION_SIZE};
 use couplingnut_tests::second::reader::{most_records, RECORD};
 
 /// Calls that nothing refuses, with records, and then every set of reasons.
@@ -37,7 +37,7 @@ fn the_lowest_number_that_applies_is_given() {
 }
 
 /// At rest, last SCLK low, all settings clear.
-const OPENED: SessionBytes = [2, 1, 0, 0, 0, 0, 0, 0, 0, 0, 0, 0, 0, 0, 0, 0, 0, 0, 0];
+const OPENED: SessionBytes = [3, 1, 0, 0, 0, 0, 0, 0, 0, 0, 0, 0, 0, 0, 0, 0, 0, 0, 0, 0];
 
 /// A call that is done and has a record.
 fn good_call(random: &mut Random) -> Given {
@@ -69,9 +69,10 @@ fn every_byte_of_a_session_is_looked_at() {
             for value in 0..=255 {
                 given.session = sound;
                 given.session[at] = value;
-                let no_session = at == 0 && value != 2
+                let no_session = at == 0 && value != 3
                     || at == PHASE_AT && value > 2
-                    || FLAGS.contains(&at) && value > 1;
+                    || FLAGS.contains(&at) && value > 1
+                    || at == LEFT_AT && value != 0;
                 for call in Call::READING {
                     let left = comparison.call(call, &given);
                     assert!(left.number == 1 || !no_session, "byte {at} is {value}");
@@ -84,7 +85,7 @@ fn every_byte_of_a_session_is_looked_at() {
 }
 
 /// Bytes of the layout's version 1, which had the slow setting in byte 15, are no
-/// session, whatever they held.
+/// session, whatever they held; nor are those of version 2, which ended at byte 18.
 #[test]
 fn old_bytes_are_refused_with_1() {
     let mut comparison = Comparison::new("refusals::old_bytes_are_refused_with_1");
@@ -94,9 +95,12 @@ fn old_bytes_are_refused_with_1() {
         [1, 1, 0, 0, 0, 0, 0, 0, 0, 0, 1, 1, 1, 1, 1, 0, 0, 0, 0, 0],
         [1, 0, 1, 1, 3, 0, 5, 0, 0, 0, 1, 0, 0, 0, 0, 0, 1, 0, 0, 0],
         [1, 0, 0, 2, 2, 0, 2, 0x4A, 0x53, 1, 0, 0, 1, 1, 1, 1, 0, 0, 1, 1],
+        [2, 1, 0, 0, 0, 0, 0, 0, 0, 0, 0, 0, 0, 0, 0, 0, 0, 0, 0, 0],
+        [2, 0, 1, 1, 3, 0, 5, 0, 0, 0, 1, 0, 0, 0, 0, 1, 0, 0, 0, 0],
+        [2, 0, 0, 2, 2, 0, 2, 0x4A, 0x53, 1, 0, 0, 1, 1, 1, 0, 0, 1, 1, 0],
     ] {
         let mut given = Given::opened(&simple_map(16));
-        given.session.copy_from_slice(&old[..SESSION_SIZE]);
+        given.session = old;
         for call in Call::READING {
             assert_eq!(comparison.call(call, &given), given.untouched(1));
         }

@@ -456,10 +456,6 @@ fn the_call_looks_at_every_byte() {
 
 /// The library in lists with nothing, one thing or several things wrong.
 #[test]
-#[cfg_attr(
-    all(host_library, not(host_setup)),
-    ignore = "left out: libcouplingnut.a has no couplingnut_send_setup"
-)]
 fn the_library_agrees_on_good_and_spoilt_lists() {
     library::assert_present();
     let mut given = [0; 16];

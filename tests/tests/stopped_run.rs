@@ -45,6 +45,7 @@ impl Side {
             return chip.call(samples, records);
         };
         let left = memory.product(Call::Read, &chip.given(samples, records));
+        let left = left.expect("every library has this call");
         chip.session = from_bytes(&left.session).expect("the library leaves a session");
         chip.active = left.active;
         chip.buffer = left.buffer;

@@ -3,6 +3,7 @@ use Prim.Native.Nat.{ℕ}
 use mathlib.Core.Bool.{cond}
 use mathlib.Core.List.{List}
 use lib.Dec.{eqb}
+use Rattle.chip.specs.declared.Chip.{Chip}
 use Rattle.registers.specs.Banks.{Banks}
 use Rattle.reader.specs.Calls.{Opening, Outcome, readOf}
 
@@ -21,8 +22,8 @@ abbrev pub leftBy : Outcome → Left
 leftBy o = left (o .number) (o .count) (o .world .banks) (o .records)
 
 -- Reading on from what opening left; a refused opening is all.
-unfoldable pub readFrom : List ℕ → Opening → List ℕ → List ℕ → Left
-readFrom m o samples records =
+unfoldable pub readFrom : Chip → List ℕ → Opening → List ℕ → List ℕ → Left
+readFrom c m o samples records =
     cond (eqb (o .number) 0)
-    (leftBy (readOf m (record { session = o .session; banks = o .banks }) samples records))
+    (leftBy (readOf c m (record { session = o .session; banks = o .banks }) samples records))
     (left (o .number) 0 (o .banks) records)

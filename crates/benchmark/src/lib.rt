@@ -1,12 +1,38 @@
 // What the benchmark calls: the reader from the opening on, on byte slices and numbers, since a session is no type of C's.
 ghost use mathlib.Core.Path.{_≡_};
+ghost use Rattle.chip.specs.declared.Part.the-variants.{Ad9557};
+ghost use Rattle.chip.specs.declared.Chip.the-variants.{Newer, Older};
 ghost use Rattle.registers.specs.Banks.{banks};
 ghost use Rattle.reader.specs.Calls.{openOf};
 ghost use Rattle.benchmark.specs.Fresh.{left, readFrom};
-use reader::open;
-use reader::read;
+use chip::Chip;
+use chip::Part;
+use reader::open_on;
+use reader::read_on;
 
 // Opens, and reads samples from the opened session: the number, and how many records there are.
+fn read_fresh(
+    chip: Chip,
+    map: &[u8],
+    active: &mut [u8],
+    buffer: &mut [u8],
+    samples: &[u8],
+    records: &mut [u8],
+    count: &mut u64,
+) -> u32
+    ensures { λ r. ⌜ left r (now (count .exit)) (banks (now (active .exit)) (now (buffer .exit))) (now (records .exit)) ≡ readFrom chip (now (map .entry)) (openOf chip (now (map .entry)) (banks (now (active .entry)) (now (buffer .entry)))) (now (samples .entry)) (now (records .entry)) ⌝ }
+{
+    let opened = open_on(chip, map, active, buffer);
+    if opened.number != 0 {
+        *count = 0;
+        return opened.number as u32;
+    }
+    let answer = read_on(chip, map, opened.session, active, buffer, samples, records);
+    *count = answer.count as u64;
+    answer.number as u32
+}
+
+// The same of a newer chip.
 #[no_mangle]
 pub extern "C" fn benchmark_read(
     map: &[u8],
@@ -16,14 +42,27 @@ pub extern "C" fn benchmark_read(
     records: &mut [u8],
     count: &mut u64,
 ) -> u32
-    ensures { λ r. ⌜ left r (now (count .exit)) (banks (now (active .exit)) (now (buffer .exit))) (now (records .exit)) ≡ readFrom (now (map .entry)) (openOf (now (map .entry)) (banks (now (active .entry)) (now (buffer .entry)))) (now (samples .entry)) (now (records .entry)) ⌝ }
+    ensures { λ r. ⌜ left r (now (count .exit)) (banks (now (active .exit)) (now (buffer .exit))) (now (records .exit)) ≡ readFrom Newer (now (map .entry)) (openOf Newer (now (map .entry)) (banks (now (active .entry)) (now (buffer .entry)))) (now (samples .entry)) (now (records .entry)) ⌝ }
 {
-    let opened = open(map, active, buffer);
-    if opened.number != 0 {
-        *count = 0;
-        return opened.number as u32;
-    }
-    let answer = read(map, opened.session, active, buffer, samples, records);
-    *count = answer.count as u64;
-    answer.number as u32
+    read_fresh(Chip::Newer, map, active, buffer, samples, records, count)
+}
+
+// The same of an AD9557 with the highest address that it has.
+#[no_mangle]
+pub extern "C" fn benchmark_read_older(
+    top: u64,
+    map: &[u8],
+    active: &mut [u8],
+    buffer: &mut [u8],
+    samples: &[u8],
+    records: &mut [u8],
+    count: &mut u64,
+) -> u32
+    ensures { λ r. ⌜ left r (now (count .exit)) (banks (now (active .exit)) (now (buffer .exit))) (now (records .exit)) ≡ readFrom (Older Ad9557 top) (now (map .entry)) (openOf (Older Ad9557 top) (now (map .entry)) (banks (now (active .entry)) (now (buffer .entry)))) (now (samples .entry)) (now (records .entry)) ⌝ }
+{
+    let chip = Chip::Older {
+        part: Part::Ad9557,
+        top: top,
+    };
+    read_fresh(chip, map, active, buffer, samples, records, count)
 }

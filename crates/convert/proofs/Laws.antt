@@ -11,6 +11,7 @@ use Rattle.bits.specs.Tests.{unless}
 use Rattle.bits.specs.Buffer.{Put}
 use Rattle.bits.proofs.Cases.{yes, no, each}
 use Rattle.bits.proofs.Putting.{put-filled}
+use Rattle.chip.specs.declared.Chip.the-variants.{Newer}
 use Rattle.regmap.specs.Format.{versionOf, countOf, flagsOf, entrySize, headSizeIn, headOf}
 use Rattle.maptest.specs.MapTest.{mapNumber}
 use Rattle.maptest.proofs.Laws.{good-form}
@@ -27,23 +28,23 @@ length-head version n =
     go false v w x y z = refl
 
 -- a good map is converted to its entries behind a head of the wished version
-pub length-converted : (version : ℕ) (m : List ℕ) → mapNumber m ≡ 0 → length (convertedTo version m) ≡ headSizeIn version + entrySize * countOf m
+pub length-converted : (version : ℕ) (m : List ℕ) → mapNumber Newer m ≡ 0 → length (convertedTo version m) ≡ headSizeIn version + entrySize * countOf m
 unfolding convertedTo headOf
 length-converted version m good =
     each (λ (l : List ℕ). length l ≡ headSizeIn version + entrySize * countOf m) (eqb (versionOf m) version)
-    (λ t. good-form m good ∙ ap (λ (v : ℕ). headSizeIn v + entrySize * countOf m) (eqb-true (versionOf m) version t))
-    (λ t. omega (arith, length-append (headBytes version (countOf m)) (drop (headOf m) m), length-head version (countOf m), length-drop (headOf m) m, good-form m good))
+    (λ t. good-form Newer m good ∙ ap (λ (v : ℕ). headSizeIn v + entrySize * countOf m) (eqb-true (versionOf m) version t))
+    (λ t. omega (arith, length-append (headBytes version (countOf m)) (drop (headOf m) m), length-head version (countOf m), length-drop (headOf m) m, good-form Newer m good))
 
 -- what number 0 says: the map is good, what goes back has no flag, and the buffer has room
 pub record Accepted (version : ℕ) (m : List ℕ) (room : ℕ) : Type 0 where
-  pub good : mapNumber m ≡ 0
+  pub good : mapNumber Newer m ≡ 0
   pub unflagged : (eqb version 2 || eqb (flagsOf m) 0) ≡ true
   pub enough : length (convertedTo version m) ≤ room
 
 pub accepted : (version : ℕ) (m : List ℕ) (room : ℕ) → convertNumber version m room ≡ 0 → Accepted version m room
 unfolding convertNumber
 accepted version m room z =
-    let t = passed (mapNumber m) (eqb (mapNumber m) 0) (eqb version 2 || eqb (flagsOf m) 0) (leb (length (convertedTo version m)) room) refl z in
+    let t = passed (mapNumber Newer m) (eqb (mapNumber Newer m) 0) (eqb version 2 || eqb (flagsOf m) 0) (leb (length (convertedTo version m)) room) refl z in
     record {
       good = t .0;
       unflagged = t .1 .0;

@@ -12,6 +12,7 @@ use borrow.Author.Tests.{ltb-true, eqb-true, eq-eqb, ne-eqb, le-leb}
 use Rattle.bits.specs.Bytes.{byteAt}
 use Rattle.bits.specs.Tests.{every}
 use Rattle.bits.proofs.Cases.{and-left, and-right}
+use Rattle.chip.specs.declared.Chip.the-variants.{Newer}
 use Rattle.regmap.specs.declared.Entry.{Entry}
 use Rattle.regmap.specs.Format.{lengthOf, versionOf, countOf, headOf, flagsOf, entryAt, registerAt, SameRegisters}
 use Rattle.maptest.specs.MapTest.{formTests, mapNumber}
@@ -46,7 +47,7 @@ byte-lt [] i h = omega arith
 byte-lt (x ∷ m) zero h = ltb-true x 256 (and-left (ltb x 256) (areBytes m) h)
 byte-lt (x ∷ m) (suc i) h = byte-lt m i (and-right (ltb x 256) (areBytes m) h)
 
-module _ (m : List ℕ) (good : mapNumber m ≡ 0) (bytes : areBytes m ≡ true) where
+module _ (m : List ℕ) (good : mapNumber Newer m ≡ 0) (bytes : areBytes m ≡ true) where
   count-bytes : (byteAt m 3 ≡ countOf m / 256) × (byteAt m 4 ≡ countOf m % 256)
   unfolding countOf
   count-bytes = (omega (arith, byte-lt m 3 bytes, byte-lt m 4 bytes), omega (arith, byte-lt m 3 bytes, byte-lt m 4 bytes))
@@ -59,18 +60,18 @@ module _ (m : List ℕ) (good : mapNumber m ≡ 0) (bytes : areBytes m ≡ true)
   unfolding headBytes headOf
   is-map _ to-1 v f =
       let h : headOf m ≡ 5 = rw v in
-      let l = length-bytes (3 + 3 * countOf m) (omega (arith, good-length m good)) in
+      let l = length-bytes (3 + 3 * countOf m) (omega (arith, good-length Newer m good)) in
       rw v
       ((λ i. sym (l .0) i ∷ sym (l .1) i ∷ sym v i ∷ sym (count-bytes .0) i ∷ sym (count-bytes .1) i ∷ drop 5 m)
-      ∙ five m (omega (arith, good-form m good)))
+      ∙ five m (omega (arith, good-form Newer m good)))
   is-map _ to-2 v f =
       let h : headOf m ≡ 6 = rw v in
       let b : byteAt m 5 ≡ 0 = rw v at f in
-      let l = length-bytes (4 + 3 * countOf m) (omega (arith, good-length m good)) in
-      let d : 0 ∷ drop 6 m ≡ drop 5 m = ap (λ (x : ℕ). x ∷ drop 6 m) (sym b) ∙ next-byte m 5 (omega (arith, good-form m good)) in
+      let l = length-bytes (4 + 3 * countOf m) (omega (arith, good-length Newer m good)) in
+      let d : 0 ∷ drop 6 m ≡ drop 5 m = ap (λ (x : ℕ). x ∷ drop 6 m) (sym b) ∙ next-byte m 5 (omega (arith, good-form Newer m good)) in
       rw v
       ((λ i. sym (l .0) i ∷ sym (l .1) i ∷ sym v i ∷ sym (count-bytes .0) i ∷ sym (count-bytes .1) i ∷ d i)
-      ∙ five m (omega (arith, good-form m good)))
+      ∙ five m (omega (arith, good-form Newer m good)))
 
 -- ---- on such a map conversion computes
 
@@ -153,17 +154,17 @@ form-in _ to-2 n entries least most whole =
 
 -- ---- what a call makes
 
-copied : (wished : ℕ) (m : List ℕ) → mapNumber m ≡ 0 → versionOf m ≡ wished → IsConverted wished m (convertedTo wished m)
+copied : (wished : ℕ) (m : List ℕ) → mapNumber Newer m ≡ 0 → versionOf m ≡ wished → IsConverted wished m (convertedTo wished m)
 unfolding convertedTo
 copied wished m good v =
     rw (eq-eqb (versionOf m) wished v) (record { good = good; wished = v; same-registers = record { same-count = refl; same-entry = λ a. refl }; same-flags = refl })
 
 made-in :
     (version wished : ℕ) → Wished version → Wished wished → (n : ℕ) (entries : List ℕ) → 16 ≤ n → n ≤ 8192 → length entries ≡ 3 * n
-    → mapNumber (mapIn version n entries) ≡ 0 → IsConverted wished (mapIn version n entries) (mapIn wished n entries)
+    → mapNumber Newer (mapIn version n entries) ≡ 0 → IsConverted wished (mapIn version n entries) (mapIn wished n entries)
 unfolding headBytes
 made-in version wished a b n entries least most whole good = record {
-  good = good-alike (mapIn version n entries) (mapIn wished n entries) (same-in version wished a b n entries) good (form-in wished b n entries least most whole);
+  good = good-alike Newer (mapIn version n entries) (mapIn wished n entries) (same-in version wished a b n entries) good (form-in wished b n entries least most whole);
   wished = version-in wished b;
   same-registers = same-in version wished a b n entries;
   same-flags = flags-in wished b ∙ sym (flags-in version a);
@@ -178,20 +179,20 @@ made-in version wished a b n entries least most whole good = record {
     flags-in _ to-2 = refl
 
 remade :
-    (version wished : ℕ) → Wished version → Wished wished → (m : List ℕ) → areBytes m ≡ true → mapNumber m ≡ 0
+    (version wished : ℕ) → Wished version → Wished wished → (m : List ℕ) → areBytes m ≡ true → mapNumber Newer m ≡ 0
     → versionOf m ≡ version → flagsOf m ≡ 0 → IsConverted wished m (convertedTo wished m)
 remade version wished a b m bytes good v f =
     let n = countOf m in
     let entries = drop (headOf m) m in
     let e = is-map m good bytes version a v f in
     let c : mapIn wished n entries ≡ convertedTo wished m = sym (to-other version wished a b n entries) ∙ ap (convertedTo wished) e in
-    let whole : length entries ≡ 3 * n = omega (arith, length-drop (headOf m) m, good-form m good) in
-    let made = made-in version wished a b n entries (good-count m good .0) (good-count m good .1) whole (subst (λ (x : List ℕ). mapNumber x ≡ 0) (sym e) good) in
+    let whole : length entries ≡ 3 * n = omega (arith, length-drop (headOf m) m, good-form Newer m good) in
+    let made = made-in version wished a b n entries (good-count Newer m good .0) (good-count Newer m good .1) whole (subst (λ (x : List ℕ). mapNumber Newer x ≡ 0) (sym e) good) in
     subst (λ (x : List ℕ). IsConverted wished x (convertedTo wished m)) e (subst (IsConverted wished (mapIn version n entries)) c made)
 
 -- a good map is of one of the versions
-version-of : (m : List ℕ) → mapNumber m ≡ 0 → Wished (versionOf m)
-version-of m good = go (versionOf m) (good-version m good)
+version-of : (m : List ℕ) → mapNumber Newer m ≡ 0 → Wished (versionOf m)
+version-of m good = go (versionOf m) (good-version Newer m good)
   where
     go : (v : ℕ) → (eqb v 1 || eqb v 2) ≡ true → Wished v
     go zero h = absurd (false≢true h)
@@ -205,7 +206,7 @@ converted-maps wished b m room bytes z =
     let t = accepted wished m room z in
     go (versionOf m) refl (version-of m (t .good)) wished b (t .unflagged)
   where
-    good : mapNumber m ≡ 0
+    good : mapNumber Newer m ≡ 0
     good = accepted wished m room z .good
 
     go :

@@ -7,6 +7,7 @@ use lib.Dec.{eqb, leb}
 use Rattle.bits.specs.Tests.{unless}
 use Rattle.bits.specs.Buffer.{filled}
 use Rattle.bits.specs.Bytes.{wordBytes}
+use Rattle.chip.specs.declared.Chip.the-variants.{Newer}
 use Rattle.regmap.specs.Format.{versionOf, countOf, flagsOf, lengthSize, entrySize, headSizeIn, headOf}
 use Rattle.maptest.specs.MapTest.{mapNumber}
 
@@ -25,7 +26,7 @@ convertedTo version m = cond (eqb (versionOf m) version) m (headBytes version (c
 -- Numbers 2 and 3 as the map test gives them; 13, after 3, for going back with bit 0 set; 11, after 13, for a buffer too short.
 unfoldable pub convertNumber : ℕ → List ℕ → ℕ → ℕ
 convertNumber version m room =
-    unless (eqb (mapNumber m) 0) (mapNumber m)
+    unless (eqb (mapNumber Newer m) 0) (mapNumber Newer m)
     (unless (eqb version 2 || eqb (flagsOf m) 0) 13
     (unless (leb (length (convertedTo version m)) room) 11
     0))

@@ -4,6 +4,7 @@ use mathlib.Core.Path.{_≡_}
 use mathlib.Core.Bool.{true}
 use mathlib.Core.List.{List}
 use lib.Pow.{areBytes}
+use Rattle.chip.specs.declared.Chip.the-variants.{Newer}
 use Rattle.regmap.specs.Format.{versionOf, flagsOf, SameRegisters}
 use Rattle.maptest.specs.MapTest.{mapNumber}
 use Rattle.convert.specs.Convert.{convertedTo, convertNumber}
@@ -15,7 +16,7 @@ pub data Wished : ℕ → Type 0 where
 
 -- It is a good map of the wished version, with the registers and the flags of the map that it was made of.
 pub record IsConverted (version : ℕ) (m m′ : List ℕ) : Type 0 where
-  pub good : mapNumber m′ ≡ 0
+  pub good : mapNumber Newer m′ ≡ 0
   pub wished : versionOf m′ ≡ version
   pub same-registers : SameRegisters m m′
   pub same-flags : flagsOf m′ ≡ flagsOf m
@@ -28,5 +29,5 @@ ConvertedMaps =
 -- Back again, every byte is as it was: from 1 to 2 and back, and from 2 with flags 0 to 1 and back.
 abbrev pub BackAgain : Type 0
 BackAgain =
-    (version wished : ℕ) → Wished version → Wished wished → (m : List ℕ) → areBytes m ≡ true → mapNumber m ≡ 0
+    (version wished : ℕ) → Wished version → Wished wished → (m : List ℕ) → areBytes m ≡ true → mapNumber Newer m ≡ 0
     → versionOf m ≡ version → flagsOf m ≡ 0 → convertedTo version (convertedTo wished m) ≡ m

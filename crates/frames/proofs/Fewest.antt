@@ -10,6 +10,7 @@ use lib.ListN.{length, length-map}
 use lib.Dec.{eqb, leb}
 use borrow.Author.Tests.{eqb-true, eq-eqb, leb-true, le-leb, lt-leb}
 use Rattle.settings.specs.Settings.{nextAddress}
+use Rattle.chip.specs.declared.Chip.the-variants.{Newer}
 use Rattle.order.specs.Order.{Order, RunByte, sentBytes, runBytes, runFrom}
 use Rattle.frames.specs.Frames.{Stretch, wantedOf, stretchesOf, startOf, frameOf, framesOf}
 use Rattle.frames.specs.Fewest.{AllFrames, allBytes, bytesTo, FewestFrames}
@@ -102,14 +103,14 @@ abbrev starts : List Order → List ℕ
 starts os = map (λ (o : Order). o .start) os
 
 -- what leads on in the first order, or in the others, leads on in all of them
-leads-first : (up : Bool) (h : ℕ) (o : Order) (os : List Order) → Leads up h (runBytes o) → Leads up h (allBytes (o ∷ os))
+leads-first : (up : Bool) (h : ℕ) (o : Order) (os : List Order) → Leads up h (runBytes Newer o) → Leads up h (allBytes (o ∷ os))
 unfolding allBytes
-leads-first up h o os m = (m .0, (rw (goes-append (m .0) (runBytes o) (allBytes os), m .1 .0), m .1 .1))
+leads-first up h o os m = (m .0, (rw (goes-append (m .0) (runBytes Newer o) (allBytes os), m .1 .0), m .1 .1))
 
 leads-later : (up : Bool) (h : ℕ) (o : Order) (os : List Order) → Leads up h (allBytes os) → Leads up h (allBytes (o ∷ os))
 unfolding allBytes
 leads-later up h o os m =
-    (m .0, (rw (goes-append (m .0) (runBytes o) (allBytes os), m .1 .0) (or-true (goesTo (m .0) (runBytes o))), m .1 .1))
+    (m .0, (rw (goes-append (m .0) (runBytes Newer o) (allBytes os), m .1 .0) (or-true (goesTo (m .0) (runBytes Newer o))), m .1 .1))
 
 -- in a set
 started :
@@ -119,9 +120,9 @@ unfolding AllFrames allBytes
 started up h [] fs t none = absurd (false≢true t)
 started up h (o ∷ os) fs t none =
     ⊎-elim
-    (λ (e : goesTo h (runBytes o) ≡ true). here (reached up h (o .start) (sentBytes o) (rw (fs .0 .direction) at e)))
+    (λ (e : goesTo h (runBytes Newer o) ≡ true). here (reached up h (o .start) (sentBytes o) (rw (fs .0 .direction) at e)))
     (λ (e : goesTo h (allBytes os) ≡ true). rw (started up h os (fs .1) e (λ m. none (leads-later up h o os m))) (or-true (eqb (o .start) h)))
-    (goes-cases h (runBytes o) (allBytes os) t)
+    (goes-cases h (runBytes Newer o) (allBytes os) t)
   where
     here : (o .start ≡ h) ⊎ Leads up h (runFrom up (o .start) (sentBytes o)) → (eqb (o .start) h || isIn h (starts os)) ≡ true
     here (inl e) = rw (eq-eqb (o .start) h e)

@@ -10,6 +10,7 @@ use lib.Dec.{eqb}
 use borrow.Author.Tests.{eqb-true, eq-eqb, ne-eqb, le-leb, lt-ltb}
 use Rattle.bits.specs.Tests.{every}
 use Rattle.bits.specs.Bits.{bitAt}
+use Rattle.chip.specs.declared.Chip.the-variants.{Newer}
 use Rattle.order.specs.Order.{Order, order, RunByte, runBytes, runFrom}
 use Rattle.order.specs.Samples.{samplesOf}
 use Rattle.order.specs.Number.{sendNumber}
@@ -99,7 +100,7 @@ either-run false a f (v ∷ vs) h k =
 taken : (t start k : ℕ) (vs : List ℕ) → t ≤ 7 → bitAt t 2 ≡ false → 1 ≤ k → k ≤ 1000 → length vs ≡ k → start ≤ 0x7FFF → ownNumber (order 0 t start k vs) ≡ 0
 unfolding sendNumber every
 taken t start k vs known single some most e low =
-    let n = length (samplesOf (order 0 t start k vs)) in
+    let n = length (samplesOf Newer (order 0 t start k vs)) in
     rw (le-leb t 7 known, le-leb 1 k some, le-leb k 1000 most, eq-eqb (length vs) k e, le-leb start 0x7FFF low, single, le-leb n n (omega arith))
 
 start-low : (up : Bool) (s : Stretch) → 1 ≤ length (s .bytes) → s .lowest + length (s .bytes) ≤ 0x8000 → startOf up s ≤ 0x7FFF
@@ -152,7 +153,7 @@ module _ (up : Bool) (t : ℕ) (streams : Streams up t) where
   unfolding allBytes
   exactly a l [] h = refl
   exactly a l (s ∷ ss) h =
-      to-append a (runBytes (withSettings t (frameOf up s))) (allBytes (orders ss))
+      to-append a (runBytes Newer (withSettings t (frameOf up s))) (allBytes (orders ss))
       ∙ rw (exactly a (s .lowest + length (s .bytes) + 1) ss (h .3), streams .direction, either-run up a (s .lowest) (s .bytes) (h .1) (h .2))
       (sym (to-append a (upFrom (s .lowest) (s .bytes)) (registersIn ss)))
 

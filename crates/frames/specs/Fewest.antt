@@ -8,6 +8,7 @@ use lib.ListN.{length}
 use lib.Dec.{eqb}
 use Rattle.bits.specs.Tests.{every}
 use Rattle.bits.specs.Bits.{bitAt}
+use Rattle.chip.specs.declared.Chip.the-variants.{Newer}
 use Rattle.order.specs.Order.{Order, RunByte, isRead, singleInstruction, ascending, runBytes}
 use Rattle.setup.specs.Form.{ListedOrder, listBytes, listGood, withSettings}
 use Rattle.setup.specs.Calls.{mostOrders, ordersOf, ownNumber, firstBad}
@@ -28,7 +29,7 @@ AllFrames up (o ∷ os) = Frame up o × AllFrames up os
 -- every byte that some orders send, with its address
 unfoldable pub allBytes : List Order → List RunByte
 allBytes [] = []
-allBytes (o ∷ os) = runBytes o ++ allBytes os
+allBytes (o ∷ os) = runBytes Newer o ++ allBytes os
 
 -- the bytes among them that go to one address
 unfoldable pub bytesTo : ℕ → List RunByte → List ℕ

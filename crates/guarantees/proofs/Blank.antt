@@ -1,6 +1,6 @@
 -- The map of 8,192 registers is good: its first sixteen entries compute, and a blank one is good at any place from 0x0010 on.
 use mathlib.Core.Path.{_≡_, refl, sym}
-use mathlib.Core.Bool.{Bool, true, false, cond}
+use mathlib.Core.Bool.{Bool, true, false, cond, _&&_}
 use mathlib.Core.List.{List, [], _∷_, _++_}
 use Prim.Native.Nat.{ℕ, zero, suc, _+_, _-_, _*_, _≤_}
 use native.Mathlib.Omega.{arith}
@@ -9,12 +9,12 @@ use lib.Dec.{ltb}
 use Rattle.bits.specs.Bytes.{byteAt}
 use Rattle.bits.specs.Tests.{every}
 use Rattle.bits.proofs.Cases.{yes}
+use Rattle.chip.specs.declared.Chip.the-variants.{Newer}
 use Rattle.regmap.specs.declared.Entry.{Entry}
 use Rattle.regmap.specs.Format.{entryStart, countOf, headOf, entryAt, registerAt}
 use Rattle.regmap.proofs.Laws.{head-bounds}
-use Rattle.maptest.specs.MapTest.{formTests, kindRule, placeRule, entryGood, entriesGood, furtherTests, mapNumber}
-use Rattle.maptest.proofs.Entries.{three-parts}
-use Rattle.maptest.proofs.PlaceKinds.{free-place}
+use Rattle.maptest.specs.MapTest.{formTests, kindRule, placeKinds, placeRule, entryGood, entriesGood, furtherTests, mapNumber}
+use Rattle.maptest.proofs.Entries.{two-parts}
 use Rattle.maptest.proofs.Laws.{formed}
 use Rattle.guarantees.specs.Known.{entries16, map8192}
 
@@ -49,16 +49,16 @@ module _ (xs : List ℕ) (n : ℕ) (head : length xs ≡ 53) where
           )
       go false = refl
 
-  good-from-16 : (k a : ℕ) → 16 ≤ a → entriesGood m a k ≡ true
-  unfolding entriesGood entryGood kindRule
+  good-from-16 : (k a : ℕ) → 16 ≤ a → entriesGood [] m a k ≡ true
+  unfolding entriesGood entryGood kindRule placeRule
   good-from-16 zero a h = refl
-  good-from-16 (suc k) a h = rw (blank-from-16 a h, ← free-place a 0 h, good-from-16 k (a + 1) (omega arith))
+  good-from-16 (suc k) a h = rw (blank-from-16 a h, good-from-16 k (a + 1) (omega arith))
 
-first-good : true ≡ entriesGood map8192 0 16
+first-good : true ≡ entriesGood placeKinds map8192 0 16
 unfolding countOf headOf entryAt kindRule placeRule entryGood entriesGood
 first-good = refl
 
-others-good : true ≡ entriesGood map8192 16 (countOf map8192 - 16)
+others-good : true ≡ entriesGood [] map8192 16 (countOf map8192 - 16)
 unfolding countOf
 others-good = sym (good-from-16 (0x60 ∷ 0x03 ∷ 1 ∷ 0x20 ∷ 0x00 ∷ entries16) (3 * 8176) refl 8176 16 (omega arith))
 
@@ -66,12 +66,13 @@ form-good : every (formTests map8192) ≡ true
 unfolding every countOf headOf
 form-good = refl
 
-further-good : true ≡ every (furtherTests map8192)
+further-good : true ≡ every (furtherTests Newer map8192)
 unfolding every countOf headOf entryAt
 further-good = refl
 
-pub good-8192 : mapNumber map8192 ≡ 0
+pub good-8192 : mapNumber Newer map8192 ≡ 0
 unfolding mapNumber
 good-8192 =
-    let rules = three-parts map8192 true true true (formed map8192 form-good) first-good others-good further-good in
-    sym (yes _ form-good (yes _ (sym rules) refl))
+    let entries = two-parts placeKinds map8192 true true (formed map8192 form-good) (omega arith) first-good others-good in
+    let rules : (entriesGood placeKinds map8192 0 (countOf map8192) && every (furtherTests Newer map8192)) ≡ true = rw (← entries, ← further-good) in
+    sym (yes _ form-good (yes _ rules refl))

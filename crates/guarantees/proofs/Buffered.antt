@@ -11,9 +11,13 @@ use lib.ListN.{getD}
 use lib.Seq.{getD-set-other}
 use Rattle.bits.specs.Bits.{bitAt}
 use Rattle.bits.proofs.Cases.{each, and-left, and-right, or-left, or-right}
+use Rattle.chip.specs.declared.Chip.{Chip}
+use Rattle.chip.specs.declared.Chip.the-variants.{Newer, Older}
+use Rattle.chip.specs.Chip.{isNewer, transferPlace}
 use Rattle.regmap.specs.Format.{registerAt, plain, buffered, control}
 use Rattle.maptest.specs.MapTest.{mapNumber}
-use Rattle.maptest.proofs.Laws.{control-15}
+use Rattle.maptest.proofs.Laws.{control-transfer}
+use Rattle.settings.specs.Settings.{transfersAt}
 use Rattle.registers.specs.Banks.{Banks, Mapped, transferred}
 use Rattle.registers.proofs.Laws.{in-banks, getD-transfer}
 use Rattle.writing.specs.declared.Effect.{Effect}
@@ -22,8 +26,7 @@ use Rattle.writing.specs.Effect.{controlEffect, effectOf}
 use Rattle.writing.specs.Write.{applied, writeBanks}
 use Rattle.writing.proofs.Laws.{mapped-write}
 use Rattle.order.specs.Order.{RunByte}
-use Rattle.order.specs.Number.{isConfiguration}
-use Rattle.guarantees.specs.Book.{writeAll, clearOfConfiguration}
+use Rattle.guarantees.specs.Book.{writeAll, setsAnything, clearOfSettings}
 use Rattle.guarantees.specs.InForce.{isTransfer, anyTransfer}
 
 -- the byte in force at an address
@@ -32,38 +35,47 @@ inForce a b = getD (b .active) a 0
 
 -- ---- one write
 
--- clear of 0x0000, the effect of a write to a control register is a transfer, or changes no bank
+-- such a write asks for no soft reset, which is a newer chip's 0x0000
+no-reset : (c : Chip) (p : RunByte) → setsAnything c p ≡ false → (isNewer c && eqb (p .address) 0x0000) ≡ false
+no-reset Newer p clear = or-left (eqb (p .address) 0x0000) (eqb (p .address) 0x0001) clear
+no-reset (Older part top) p clear = refl
+
+-- clear of the settings, the effect of a write to a control register is a transfer, or changes no bank
 transfer-or-none :
-    (m : List ℕ) (b : Banks) (p : RunByte) → isConfiguration p ≡ false
-    → applied m b (p .address) (controlEffect (p .address) (p .byte)) ≡ cond (isTransfer p) (transferred m b) b
+    (c : Chip) (m : List ℕ) (b : Banks) (p : RunByte) → setsAnything c p ≡ false
+    → applied m b (p .address) (controlEffect c (p .address) (p .byte)) ≡ cond (isTransfer c p) (transferred m b) b
 unfolding applied controlEffect
-transfer-or-none m b p clear =
-    rw (or-left (eqb (p .address) 0x0000) (eqb (p .address) 0x0001) clear) (by-tests (eqb (p .address) 0x000F) (bitAt (p .byte) 0))
+transfer-or-none c m b p clear = rw (no-reset c p clear) (by-test (isTransfer c p))
   where
-    by-tests : (s t : Bool) → applied m b (p .address) (cond s (cond t Transfer Control) Control) ≡ cond (s && t) (transferred m b) b
-    by-tests true true = refl
-    by-tests true false = refl
-    by-tests false t = refl
+    by-test : (t : Bool) → applied m b (p .address) (cond t Transfer Control) ≡ cond t (transferred m b) b
+    by-test true = refl
+    by-test false = refl
 
--- in a good map 0x000F is a control register, so a transfer copies the buffer stage
+-- a transfer is no soft reset either
+not-at-zero : (c : Chip) (a : ℕ) → a ≡ transferPlace c → (isNewer c && eqb a 0x0000) ≡ false
+not-at-zero Newer a e = rw e
+not-at-zero (Older part top) a e = refl
+
+-- in a good map the transfer's register is a control register, so a transfer copies the buffer stage
 transfer-write :
-    (m : List ℕ) (b : Banks) (p : RunByte) → mapNumber m ≡ 0 → isTransfer p ≡ true
-    → writeBanks m b (p .address) (p .byte) ≡ transferred m b
+    (c : Chip) (m : List ℕ) (b : Banks) (p : RunByte) → mapNumber c m ≡ 0 → isTransfer c p ≡ true
+    → writeBanks c m b (p .address) (p .byte) ≡ transferred m b
 unfolding writeBanks applied effectOf controlEffect
-transfer-write m b p good t =
-    let at-15 : p .address ≡ 0x000F = eqb-true (p .address) 0x000F (and-left (eqb (p .address) 0x000F) (bitAt (p .byte) 0) t) in
-    rw (at-15, control-15 m good, and-right (eqb (p .address) 0x000F) (bitAt (p .byte) 0) t)
+transfer-write c m b p good t =
+    let there : p .address ≡ transferPlace c = eqb-true (p .address) (transferPlace c) (and-left (eqb (p .address) (transferPlace c)) (bitAt (p .byte) 0) t) in
+    let kind : registerAt m (p .address) .kind ≡ control = ap (λ (a : ℕ). registerAt m a .kind) there ∙ control-transfer c m good in
+    rw (kind, not-at-zero c (p .address) there, t)
 
-module _ (m : List ℕ) (a : ℕ) (kind : registerAt m a .kind ≡ buffered) where
+module _ (c : Chip) (m : List ℕ) (a : ℕ) (kind : registerAt m a .kind ≡ buffered) where
   -- any other write keeps the byte in force: a plain register stands at another address
   kept-write :
-      (b : Banks) (p : RunByte) → isConfiguration p ≡ false → isTransfer p ≡ false
-      → inForce a (writeBanks m b (p .address) (p .byte)) ≡ inForce a b
+      (b : Banks) (p : RunByte) → setsAnything c p ≡ false → isTransfer c p ≡ false
+      → inForce a (writeBanks c m b (p .address) (p .byte)) ≡ inForce a b
   unfolding writeBanks applied effectOf
   kept-write b p clear quiet =
       each Kept (eqb there plain) (λ t. getD-set-other (b .active) (p .address) a _ 0 (elsewhere t))
       (λ _. each Kept (eqb there buffered) (λ _. refl)
-      (λ _. each Kept (eqb there control) (λ _. rw (transfer-or-none m b p clear, quiet))
+      (λ _. each Kept (eqb there control) (λ _. rw (transfer-or-none c m b p clear, quiet))
       (λ _. refl)))
     where
       Kept : Effect → Type 0
@@ -81,51 +93,51 @@ module _ (m : List ℕ) (a : ℕ) (kind : registerAt m a .kind ≡ buffered) whe
 
 -- ---- a list of writes
 
-pub clear-append : (ps qs : List RunByte) → clearOfConfiguration (ps ++ qs) ≡ (clearOfConfiguration ps && clearOfConfiguration qs)
-unfolding clearOfConfiguration
-clear-append [] qs = refl
-clear-append (p ∷ ps) qs =
-    rw (clear-append ps qs) (sym (and-assoc (not (isConfiguration p)) (clearOfConfiguration ps) (clearOfConfiguration qs)))
+pub clear-append : (c : Chip) (ps qs : List RunByte) → clearOfSettings c (ps ++ qs) ≡ (clearOfSettings c ps && clearOfSettings c qs)
+unfolding clearOfSettings
+clear-append c [] qs = refl
+clear-append c (p ∷ ps) qs =
+    rw (clear-append c ps qs) (sym (and-assoc (not (setsAnything c p)) (clearOfSettings c ps) (clearOfSettings c qs)))
 
-write-append : (m : List ℕ) (ps qs : List RunByte) (b : Banks) → writeAll m (ps ++ qs) b ≡ writeAll m qs (writeAll m ps b)
+write-append : (c : Chip) (m : List ℕ) (ps qs : List RunByte) (b : Banks) → writeAll c m (ps ++ qs) b ≡ writeAll c m qs (writeAll c m ps b)
 unfolding writeAll
-write-append m [] qs b = refl
-write-append m (p ∷ ps) qs b = write-append m ps qs (writeBanks m b (p .address) (p .byte))
+write-append c m [] qs b = refl
+write-append c m (p ∷ ps) qs b = write-append c m ps qs (writeBanks c m b (p .address) (p .byte))
 
-mapped-all : (m : List ℕ) (ps : List RunByte) (b : Banks) → Mapped m b → Mapped m (writeAll m ps b)
+mapped-all : (c : Chip) (m : List ℕ) (ps : List RunByte) (b : Banks) → Mapped m b → Mapped m (writeAll c m ps b)
 unfolding writeAll
-mapped-all m [] b h = h
-mapped-all m (p ∷ ps) b h = mapped-all m ps (writeBanks m b (p .address) (p .byte)) (mapped-write h (p .address) (p .byte))
+mapped-all c m [] b h = h
+mapped-all c m (p ∷ ps) b h = mapped-all c m ps (writeBanks c m b (p .address) (p .byte)) (mapped-write h c (p .address) (p .byte))
 
-module _ (m : List ℕ) (a : ℕ) (kind : registerAt m a .kind ≡ buffered) where
+module _ (c : Chip) (m : List ℕ) (a : ℕ) (kind : registerAt m a .kind ≡ buffered) where
   -- with no transfer among them, the byte in force stays
   pub kept-all :
-      (ps : List RunByte) (b : Banks) → clearOfConfiguration ps ≡ true → anyTransfer ps ≡ false
-      → inForce a (writeAll m ps b) ≡ inForce a b
-  unfolding writeAll clearOfConfiguration anyTransfer
+      (ps : List RunByte) (b : Banks) → clearOfSettings c ps ≡ true → anyTransfer c ps ≡ false
+      → inForce a (writeAll c m ps b) ≡ inForce a b
+  unfolding writeAll clearOfSettings anyTransfer
   kept-all [] b clear quiet = refl
   kept-all (p ∷ ps) b clear quiet =
-      kept-all ps (writeBanks m b (p .address) (p .byte)) (and-right (not (isConfiguration p)) (clearOfConfiguration ps) clear)
-      (or-right (isTransfer p) (anyTransfer ps) quiet)
-      ∙ kept-write m a kind b p (not-true (isConfiguration p) (and-left (not (isConfiguration p)) (clearOfConfiguration ps) clear))
-      (or-left (isTransfer p) (anyTransfer ps) quiet)
+      kept-all ps (writeBanks c m b (p .address) (p .byte)) (and-right (not (setsAnything c p)) (clearOfSettings c ps) clear)
+      (or-right (isTransfer c p) (anyTransfer c ps) quiet)
+      ∙ kept-write c m a kind b p (not-true (setsAnything c p) (and-left (not (setsAnything c p)) (clearOfSettings c ps) clear))
+      (or-left (isTransfer c p) (anyTransfer c ps) quiet)
 
   -- the last transfer puts in force what the buffer stage then held
   pub moved-last :
-      (before : List RunByte) (p : RunByte) (later : List RunByte) (b : Banks) → mapNumber m ≡ 0 → Mapped m b
-      → clearOfConfiguration (before ++ (p ∷ later)) ≡ true → isTransfer p ≡ true → anyTransfer later ≡ false
-      → inForce a (writeAll m (before ++ (p ∷ later)) b) ≡ getD (writeAll m before b .buffer) a 0
-  unfolding writeAll clearOfConfiguration
+      (before : List RunByte) (p : RunByte) (later : List RunByte) (b : Banks) → mapNumber c m ≡ 0 → Mapped m b
+      → clearOfSettings c (before ++ (p ∷ later)) ≡ true → isTransfer c p ≡ true → anyTransfer c later ≡ false
+      → inForce a (writeAll c m (before ++ (p ∷ later)) b) ≡ getD (writeAll c m before b .buffer) a 0
+  unfolding writeAll clearOfSettings
   moved-last before p later b good h clear t quiet =
-      ap (inForce a) (write-append m before (p ∷ later) b)
-      ∙ kept-all later (writeBanks m then (p .address) (p .byte)) clear-later quiet
-      ∙ ap (inForce a) (transfer-write m then p good t)
-      ∙ transferred-at m a kind then (mapped-all m before b h)
+      ap (inForce a) (write-append c m before (p ∷ later) b)
+      ∙ kept-all later (writeBanks c m then (p .address) (p .byte)) clear-later quiet
+      ∙ ap (inForce a) (transfer-write c m then p good t)
+      ∙ transferred-at c m a kind then (mapped-all c m before b h)
     where
       then : Banks
-      then = writeAll m before b
+      then = writeAll c m before b
 
-      clear-later : clearOfConfiguration later ≡ true
+      clear-later : clearOfSettings c later ≡ true
       clear-later =
-          and-right (not (isConfiguration p)) (clearOfConfiguration later)
-          (and-right (clearOfConfiguration before) (clearOfConfiguration (p ∷ later)) (sym (clear-append before (p ∷ later)) ∙ clear))
+          and-right (not (setsAnything c p)) (clearOfSettings c later)
+          (and-right (clearOfSettings c before) (clearOfSettings c (p ∷ later)) (sym (clear-append c before (p ∷ later)) ∙ clear))

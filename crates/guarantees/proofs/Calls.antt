@@ -5,34 +5,35 @@ use mathlib.Core.Bool.{Bool, true, false, cond}
 use mathlib.Core.List.{List, [], _∷_, _++_}
 use lib.Dec.{eqb}
 use lib.ListN.{length}
+use Rattle.chip.specs.declared.Chip.{Chip}
 use Rattle.run.specs.Reading.{World, worldAfter, runOf}
 use Rattle.refusals.specs.Numbers.{readNumber}
 use Rattle.reader.specs.Calls.{readOf}
 use Rattle.guarantees.specs.Calls.{Call, outcomeOf, isDone, afterCalls, joined}
 
-pub run-append : (m : List ℕ) (w : World) (xs ys : List ℕ) → runOf m w (xs ++ ys) ≡ runOf m (runOf m w xs) ys
+pub run-append : (c : Chip) (m : List ℕ) (w : World) (xs ys : List ℕ) → runOf c m w (xs ++ ys) ≡ runOf c m (runOf c m w xs) ys
 unfolding runOf
-run-append m w [] ys = refl
-run-append m w (x ∷ xs) ys = run-append m (worldAfter m w x) xs ys
+run-append c m w [] ys = refl
+run-append c m w (x ∷ xs) ys = run-append c m (worldAfter c m w x) xs ys
 
 -- the samples that a call reads: its own if it is done
-abbrev taken : List ℕ → World → Call → List ℕ
-taken m w c = cond (isDone m w c) (c .samples) []
+abbrev taken : Chip → List ℕ → World → Call → List ℕ
+taken c m w call = cond (isDone c m w call) (call .samples) []
 
-call-run : (m : List ℕ) (w : World) (c : Call) → outcomeOf m w c .world ≡ runOf m w (taken m w c)
+call-run : (c : Chip) (m : List ℕ) (w : World) (call : Call) → outcomeOf c m w call .world ≡ runOf c m w (taken c m w call)
 unfolding readOf runOf
-call-run m w c = by-number (eqb (readNumber m w (c .samples) (length (c .records))) 0) refl
+call-run c m w call = by-number (eqb (readNumber c m w (call .samples) (length (call .records))) 0) refl
   where
     by-number :
-        (done : Bool) → eqb (readNumber m w (c .samples) (length (c .records))) 0 ≡ done
-        → outcomeOf m w c .world ≡ runOf m w (taken m w c)
+        (done : Bool) → eqb (readNumber c m w (call .samples) (length (call .records))) 0 ≡ done
+        → outcomeOf c m w call .world ≡ runOf c m w (taken c m w call)
     by-number true e = rw e
     by-number false e = rw (e, e)
 
-pub calls-run : (m : List ℕ) (w : World) (calls : List Call) → afterCalls m w calls ≡ runOf m w (joined m w calls)
+pub calls-run : (c : Chip) (m : List ℕ) (w : World) (calls : List Call) → afterCalls c m w calls ≡ runOf c m w (joined c m w calls)
 unfolding afterCalls joined runOf
-calls-run m w [] = refl
-calls-run m w (c ∷ cs) =
-    calls-run m (outcomeOf m w c .world) cs
-    ∙ ap (λ (v : World). runOf m v (joined m (outcomeOf m w c .world) cs)) (call-run m w c)
-    ∙ sym (run-append m w (taken m w c) (joined m (outcomeOf m w c .world) cs))
+calls-run c m w [] = refl
+calls-run c m w (call ∷ more) =
+    calls-run c m (outcomeOf c m w call .world) more
+    ∙ ap (λ (v : World). runOf c m v (joined c m (outcomeOf c m w call .world) more)) (call-run c m w call)
+    ∙ sym (run-append c m w (taken c m w call) (joined c m (outcomeOf c m w call .world) more))

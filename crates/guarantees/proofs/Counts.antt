@@ -7,10 +7,11 @@ use native.Mathlib.Omega.{arith}
 use lib.Dec.{leb}
 use lib.ListN.{length, take}
 use borrow.Author.Tests.{leb-true, leb-false}
+use Rattle.chip.specs.declared.Chip.{Chip}
 use Rattle.registers.specs.Banks.{Banks}
 use Rattle.writing.specs.Write.{writeBanks}
 use Rattle.records.specs.BanksAfter.{banksAfter}
-use Rattle.order.specs.Order.{Order, RunByte, isRead, ascending, singleInstruction, sentBytes, runBytes}
+use Rattle.order.specs.Order.{Order, RunByte, isRead, goesUp, isSingle, sentBytes, runBytes}
 use Rattle.order.specs.Samples.{samplesOf}
 use Rattle.order.proofs.Laws.{length-run-from, length-sent, length-counted, admitted}
 use Rattle.guarantees.specs.AtRest.{Accepted}
@@ -21,13 +22,13 @@ use Rattle.guarantees.proofs.Runs.{wholeOf}
 use Rattle.guarantees.proofs.Orders.{order-events}
 
 -- an accepted order has as many bytes as it counts
-pub run-length : (o : Order) (room : ℕ) → Accepted o room → length (runBytes o) ≡ o .count
-run-length o room accepted =
-    length-run-from (ascending o) (o .start) (sentBytes o)
-    ∙ length-sent (isRead o) (o .count) (o .bytes) (admitted o room (accepted .number) .count .data-length)
+pub run-length : (c : Chip) (o : Order) (room : ℕ) → Accepted c o room → length (runBytes c o) ≡ o .count
+run-length c o room accepted =
+    length-run-from (goesUp c o) (o .start) (sentBytes o)
+    ∙ length-sent (isRead o) (o .count) (o .bytes) (admitted c o room (accepted .number) .count .data-length)
 
 pub sample-count : SampleCount
-sample-count o room accepted = length-counted o (admitted o room (accepted .number) .count)
+sample-count c o room accepted = length-counted c o (admitted c o room (accepted .number) .count)
 
 -- two tests that hold together
 same-test : (a b c d : ℕ) → (a ≤ b → c ≤ d) → (c ≤ d → a ≤ b) → leb a b ≡ leb c d
@@ -41,24 +42,24 @@ same-test a b c d there back = by-tests (leb a b) (leb c d) refl refl
 
 pub whole-byte : WholeByte
 unfolding wholeBytes
-whole-byte o s i first last =
-    let both = by-mode (singleInstruction o) refl in
-    same-test i (wholeBytes o s) (wholeAfter o i) s (both .0) (both .1)
+whole-byte c o s i first last =
+    let both = by-mode (isSingle c o) refl in
+    same-test i (wholeBytes c o s) (wholeAfter c o i) s (both .0) (both .1)
   where
-    by-mode : (single : Bool) → singleInstruction o ≡ single → (i ≤ wholeBytes o s → wholeAfter o i ≤ s) × (wholeAfter o i ≤ s → i ≤ wholeBytes o s)
+    by-mode : (single : Bool) → isSingle c o ≡ single → (i ≤ wholeBytes c o s → wholeAfter c o i ≤ s) × (wholeAfter c o i ≤ s → i ≤ wholeBytes c o s)
     by-mode true e = rw e (omega arith)
     by-mode false e = rw e (omega arith)
 
 -- whole bytes of a write, one after the other
-banks-written : (m : List ℕ) (b : Banks) (ps : List RunByte) → foldl (banksAfter m) b (map (wholeOf false) ps) ≡ writeAll m ps b
+banks-written : (c : Chip) (m : List ℕ) (b : Banks) (ps : List RunByte) → foldl (banksAfter c m) b (map (wholeOf false) ps) ≡ writeAll c m ps b
 unfolding banksAfter writeAll
-banks-written m b [] = refl
-banks-written m b (p ∷ ps) = banks-written m (writeBanks m b (p .address) (p .byte)) ps
+banks-written c m b [] = refl
+banks-written c m b (p ∷ ps) = banks-written c m (writeBanks c m b (p .address) (p .byte)) ps
 
 pub whole-effect : WholeEffect
-whole-effect m w o room s rest accepted write =
-    let whole : List RunByte = take (wholeBytes o s) (runBytes o) in
-    run-banks m w (take s (samplesOf o))
-    ∙ ap (foldl (banksAfter m) (w .banks)) (order-events m w o room rest accepted s)
-    ∙ ap (λ (read : Bool). foldl (banksAfter m) (w .banks) (map (wholeOf read) whole)) write
-    ∙ banks-written m (w .banks) whole
+whole-effect c m w o room s rest accepted write =
+    let whole : List RunByte = take (wholeBytes c o s) (runBytes c o) in
+    run-banks c m w (take s (samplesOf c o))
+    ∙ ap (foldl (banksAfter c m) (w .banks)) (order-events c m w o room rest accepted s)
+    ∙ ap (λ (read : Bool). foldl (banksAfter c m) (w .banks) (map (wholeOf read) whole)) write
+    ∙ banks-written c m (w .banks) whole

@@ -9,7 +9,8 @@ use borrow.Author.Tests.{le-leb, eq-eqb}
 use Rattle.sizes.specs.Sizes.{recordSize}
 use Rattle.bits.proofs.Cases.{and-left, and-right}
 use Rattle.regmap.specs.Format.{countOf}
-use Rattle.maptest.specs.MapTest.{mapNumber}
+use Rattle.chip.specs.declared.Chip.{Chip}
+use Rattle.maptest.specs.MapTest.{mapNumber, topFits}
 use Rattle.session.specs.State.{soundSession}
 use Rattle.session.specs.Event.{eventOf}
 use Rattle.session.proofs.Laws.{sound-step}
@@ -24,18 +25,18 @@ use Rattle.order.proofs.Laws.{admitted, most-samples}
 use Rattle.guarantees.specs.AtRest.{AtRest, Accepted}
 
 -- what a call asks of a map, a session and its banks
-pub record Sound (m : List ℕ) (w : World) : Type 0 where
-  pub session-sound : soundSession (w .session) ≡ true
+pub record Sound (c : Chip) (m : List ℕ) (w : World) : Type 0 where
+  pub session-sound : soundSession c (w .session) ≡ true
   pub mapped : Mapped m (w .banks)
 
-pub run-sound : (m : List ℕ) (w : World) (xs : List ℕ) → Sound m w → Sound m (runOf m w xs)
+pub run-sound : (c : Chip) (m : List ℕ) (w : World) (xs : List ℕ) → Sound c m w → Sound c m (runOf c m w xs)
 unfolding runOf
-run-sound m w [] h = h
-run-sound m w (x ∷ xs) h =
-    run-sound m (worldAfter m w x) xs
+run-sound c m w [] h = h
+run-sound c m w (x ∷ xs) h =
+    run-sound c m (worldAfter c m w x) xs
     (record {
-      session-sound = sound-step (w .session) x (h .session-sound);
-      mapped = mapped-after m (w .banks) (eventOf (w .session) x) (h .mapped);
+      session-sound = sound-step c (w .session) x (h .session-sound);
+      mapped = mapped-after c m (w .banks) (eventOf c (w .session) x) (h .mapped);
     })
 
 -- the bank sizes, as the reader tests them
@@ -45,22 +46,23 @@ mapped-fits m b h =
 
 -- the reader gives no number: a call is done on its conditions
 pub no-refusal :
-    (m : List ℕ) (w : World) (xs : List ℕ) (room : ℕ) → mapNumber m ≡ 0 → Sound m w → samplesGood xs ≡ true
-    → length xs ≤ 65536 → recordSize * recordCount (w .session) xs ≤ room → readNumber m w xs room ≡ 0
+    (c : Chip) (m : List ℕ) (w : World) (xs : List ℕ) (room : ℕ) → mapNumber c m ≡ 0 → topFits c m ≡ true → Sound c m w → samplesGood xs ≡ true
+    → length xs ≤ 65536 → recordSize * recordCount c (w .session) xs ≤ room → readNumber c m w xs room ≡ 0
 unfolding readNumber
-no-refusal m w xs room good h fine few enough =
+no-refusal c m w xs room good top h fine few enough =
     rw (
       h .session-sound,
       good,
       mapped-fits m (w .banks) (h .mapped),
+      top,
       fine,
       le-leb (length xs) 65536 few,
-      le-leb (recordSize * recordCount (w .session) xs) room enough,
+      le-leb (recordSize * recordCount c (w .session) xs) room enough,
     )
 
 -- a session at rest, with its banks
-pub rest-sound : (m : List ℕ) (w : World) (o : Order) → AtRest m w o → Sound m w
-rest-sound m w o rest =
+pub rest-sound : (c : Chip) (m : List ℕ) (w : World) (o : Order) → AtRest c m w o → Sound c m w
+rest-sound c m w o rest =
     record { session-sound = rest .sound; mapped = fits-mapped m (w .banks) (rest .bank-sizes) }
 
 -- ---- the samples are good, and few
@@ -77,14 +79,14 @@ good-clocked [] more h = h
 good-clocked (true ∷ bs) more h = good-clocked bs more h
 good-clocked (false ∷ bs) more h = good-clocked bs more h
 
-pub good-samples : (o : Order) → samplesGood (samplesOf o) ≡ true
+pub good-samples : (c : Chip) (o : Order) → samplesGood (samplesOf c o) ≡ true
 unfolding samplesOf samplesGood
-good-samples o = good-clocked (orderBits o) (0x00 ∷ 0x01 ∷ []) refl
+good-samples c o = good-clocked (orderBits c o) (0x00 ∷ 0x01 ∷ []) refl
 
 pub good-part : (xs ys zs : List ℕ) → xs ++ ys ≡ zs → samplesGood zs ≡ true → (samplesGood xs ≡ true) × (samplesGood ys ≡ true)
 good-part xs ys zs e h =
     let both : (samplesGood xs && samplesGood ys) ≡ true = sym (good-append xs ys) ∙ ap samplesGood e ∙ h in
     (and-left (samplesGood xs) (samplesGood ys) both, and-right (samplesGood xs) (samplesGood ys) both)
 
-pub few-samples : (o : Order) (room : ℕ) → Accepted o room → length (samplesOf o) ≤ 48003
-few-samples o room accepted = most-samples o (admitted o room (accepted .number) .count)
+pub few-samples : (c : Chip) (o : Order) (room : ℕ) → Accepted c o room → length (samplesOf c o) ≤ 48003
+few-samples c o room accepted = most-samples c o (admitted c o room (accepted .number) .count)

@@ -7,6 +7,7 @@ use native.Mathlib.Omega.{arith}
 use lib.Dec.{eqb, ltb}
 use lib.ListN.{length}
 use Rattle.bits.proofs.Cases.{each}
+use Rattle.chip.specs.declared.Chip.{Chip}
 use Rattle.settings.specs.declared.Settings.{Settings}
 use Rattle.settings.specs.Settings.{settingsAfter}
 use Rattle.session.specs.declared.Phase.{Phase}
@@ -14,9 +15,10 @@ use Rattle.session.specs.declared.Phase.the-variants.{Rest, Instruction, Data}
 use Rattle.session.specs.declared.Session.{Session}
 use Rattle.session.specs.declared.Event.{Event}
 use Rattle.session.specs.declared.Event.the-variants.{Nothing, Whole, Aborted}
-use Rattle.session.specs.State.{resting, starting, withLevels}
-use Rattle.session.specs.Step.{csbOf, sclkOf, dataLine, valueWith, settingsOnByte, withInstructionBit, withDataBit, withBit, stepOf}
-use Rattle.session.specs.Event.{isData, bitEvent, abortEvent, eventOf}
+use Rattle.session.specs.State.{resting, starting, withLevels, isData, mayStall}
+use Rattle.session.specs.Step.{csbOf, sclkOf, dataLine, valueWith, usedOn, runEnds, settingsOnByte, withInstructionBit, withDataBit, withBit, stepOf}
+use Rattle.session.specs.Event.{bitEvent, abortEvent, eventOf}
+use Rattle.session.proofs.Laws.{entered-settings}
 use Rattle.registers.specs.Banks.{Banks}
 use Rattle.records.specs.Records.{recordOf, recordsIn}
 use Rattle.records.specs.BanksAfter.{banksAfter}
@@ -29,9 +31,9 @@ noted (Whole read a v) es = Whole read a v ∷ es
 noted (Aborted a bits inData) es = Aborted a bits inData ∷ es
 
 -- what happens in a list of samples, in order of time
-unfoldable pub eventsOf : Session → List ℕ → List Event
-eventsOf s [] = []
-eventsOf s (x ∷ xs) = noted (eventOf s x) (eventsOf (stepOf s x) xs)
+unfoldable pub eventsOf : Chip → Session → List ℕ → List Event
+eventsOf c s [] = []
+eventsOf c s (x ∷ xs) = noted (eventOf c s x) (eventsOf c (stepOf c s x) xs)
 
 -- ---- what changes by events alone
 
@@ -44,106 +46,115 @@ noted-fold f still a (Aborted address bits inData) es = refl
 
 -- a part of the world that each sample changes as its event says
 run-fold :
-    {A : Type 0} (m : List ℕ) (f : A → Event → A) (part : World → A) → ((a : A) → f a Nothing ≡ a)
-    → ((w : World) (x : ℕ) → part (worldAfter m w x) ≡ f (part w) (eventOf (w .session) x))
-    → (w : World) (xs : List ℕ) → part (runOf m w xs) ≡ foldl f (part w) (eventsOf (w .session) xs)
+    {A : Type 0} (c : Chip) (m : List ℕ) (f : A → Event → A) (part : World → A) → ((a : A) → f a Nothing ≡ a)
+    → ((w : World) (x : ℕ) → part (worldAfter c m w x) ≡ f (part w) (eventOf c (w .session) x))
+    → (w : World) (xs : List ℕ) → part (runOf c m w xs) ≡ foldl f (part w) (eventsOf c (w .session) xs)
 unfolding runOf eventsOf
-run-fold m f part still moves w [] = refl
-run-fold m f part still moves w (x ∷ xs) =
-    let more : List Event = eventsOf (stepOf (w .session) x) xs in
-    run-fold m f part still moves (worldAfter m w x) xs
+run-fold c m f part still moves w [] = refl
+run-fold c m f part still moves w (x ∷ xs) =
+    let more : List Event = eventsOf c (stepOf c (w .session) x) xs in
+    run-fold c m f part still moves (worldAfter c m w x) xs
     ∙ ap (λ a. foldl f a more) (moves w x)
-    ∙ noted-fold f still (part w) (eventOf (w .session) x) more
+    ∙ noted-fold f still (part w) (eventOf c (w .session) x) more
 
-pub run-banks : (m : List ℕ) (w : World) (xs : List ℕ) → runOf m w xs .banks ≡ foldl (banksAfter m) (w .banks) (eventsOf (w .session) xs)
+pub run-banks : (c : Chip) (m : List ℕ) (w : World) (xs : List ℕ) → runOf c m w xs .banks ≡ foldl (banksAfter c m) (w .banks) (eventsOf c (w .session) xs)
 unfolding banksAfter
-run-banks m w xs = run-fold m (banksAfter m) (λ w. w .banks) (λ b. refl) (λ w x. refl) w xs
+run-banks c m w xs = run-fold c m (banksAfter c m) (λ w. w .banks) (λ b. refl) (λ w x. refl) w xs
 
 -- ---- the settings
 
-abbrev pub settingsOn : Settings → Event → Settings
-settingsOn t Nothing = t
-settingsOn t (Whole read a v) = cond read t (settingsAfter t a v)
-settingsOn t (Aborted a bits inData) = t
+abbrev pub settingsOn : Chip → Settings → Event → Settings
+settingsOn c t Nothing = t
+settingsOn c t (Whole read a v) = cond read t (settingsAfter c t a v)
+settingsOn c t (Aborted a bits inData) = t
 
 -- two values that one test picks
 both : {A B : Type 0} (P : A → B → Type 0) (t : Bool) {x y : A} {x' y' : B} → P x x' → P y y' → P (cond t x y) (cond t x' y')
 both P true h g = h
 both P false h g = g
 
-module _ (s : Session) (x : ℕ) where
+module _ (c : Chip) (s : Session) (x : ℕ) where
   -- the settings of the next session are those that the event leaves
   abbrev Follows : Session → Event → Type 0
-  Follows next e = next .settings ≡ settingsOn (s .settings) e
+  Follows next e = next .settings ≡ settingsOn c (s .settings) e
 
   -- one bit, by the phase
   settings-bit :
       (p : Phase)
-      → Follows (withBit p s x)
-      (cond (isData p) (cond (ltb (s .bits) 7) Nothing (Whole (s .read) (s .address) (valueWith s (dataLine s x)))) Nothing)
+      → Follows (withBit c p s x)
+      (cond (isData p) (cond (ltb (s .bits) 7) Nothing (Whole (s .read) (s .address) (valueWith s (dataLine c s x)))) Nothing)
   unfolding withInstructionBit withDataBit
   settings-bit Rest = refl
-  settings-bit Instruction = each (λ (next : Session). Follows next Nothing) (ltb (s .bits) 15) (λ e. refl) (λ e. refl)
+  settings-bit Instruction =
+      each (λ (next : Session). Follows next Nothing) (ltb (s .bits) 15) (λ e. refl) (λ e. entered-settings c _ (s .settings) (s .used))
   settings-bit Data =
-      let v : ℕ = valueWith s (dataLine s x) in
+      let v : ℕ = valueWith s (dataLine c s x) in
       both Follows (ltb (s .bits) 7) refl
-      (each (λ (next : Session). next .settings ≡ settingsOnByte s v) (s .used .single) (λ e. refl) (λ e. refl))
+      (each (λ (next : Session). next .settings ≡ settingsOnByte c s v) (usedOn c s .single) (λ e. refl)
+      (λ e. each (λ (next : Session). next .settings ≡ settingsOnByte c s v) (runEnds c s) (λ e. refl) (λ e. refl)))
 
-  settings-step : Follows (stepOf s x) (eventOf s x)
+  settings-step : Follows (stepOf c s x) (eventOf c s x)
   unfolding stepOf eventOf bitEvent abortEvent
   settings-step = by-csb (s .csb)
     where
       by-csb :
           (csb : Bool)
           → Follows
-          (cond (csb && not (csbOf x)) (starting (sclkOf x) (s .settings))
-          (cond (not csb && not (csbOf x) && not (s .sclk) && sclkOf x) (withBit (s .phase) s x)
-          (cond (not csb && csbOf x) (resting (sclkOf x) (s .settings)) (withLevels s x))))
-          (cond (not csb && not (csbOf x) && not (s .sclk) && sclkOf x) (bitEvent s x) (cond (not csb && csbOf x) (abortEvent s) Nothing))
-      by-csb true = each (λ (next : Session). Follows next Nothing) (not (csbOf x)) (λ e. refl) (λ e. refl)
+          (cond ((csb && not (csbOf x)) && eqb (s .left) 0) (starting (sclkOf x) (s .settings))
+          (cond (not csb && not (csbOf x) && not (s .sclk) && sclkOf x) (withBit c (s .phase) s x)
+          (cond ((not csb && csbOf x) && not (mayStall s)) (resting (sclkOf x) (s .settings)) (withLevels s x))))
+          (cond (not csb && not (csbOf x) && not (s .sclk) && sclkOf x) (bitEvent c s x) (cond (not csb && csbOf x) (abortEvent s) Nothing))
+      by-csb true = each (λ (next : Session). Follows next Nothing) (not (csbOf x) && eqb (s .left) 0) (λ e. refl) (λ e. refl)
       by-csb false =
           both Follows (not (csbOf x) && not (s .sclk) && sclkOf x) (settings-bit (s .phase))
-          (both Follows (csbOf x) (each (Follows (resting (sclkOf x) (s .settings))) (eqb (s .bits) 0) (λ e. refl) (λ e. refl)) refl)
+          (each (λ (next : Session). Follows next (cond (csbOf x) (abortEvent s) Nothing)) (csbOf x && not (mayStall s)) (λ e. none) (λ e. none))
+        where
+          none : s .settings ≡ settingsOn c (s .settings) (cond (csbOf x) (abortEvent s) Nothing)
+          none = each Same (csbOf x) (λ e. each Same (eqb (s .bits) 0) (λ e. refl) (λ e. refl)) (λ e. refl)
+            where
+              Same : Event → Type 0
+              Same e = s .settings ≡ settingsOn c (s .settings) e
 
 pub run-settings :
-    (m : List ℕ) (w : World) (xs : List ℕ)
-    → runOf m w xs .session .settings ≡ foldl settingsOn (w .session .settings) (eventsOf (w .session) xs)
-run-settings m w xs = run-fold m settingsOn (λ w. w .session .settings) (λ t. refl) (λ w x. settings-step (w .session) x) w xs
+    (c : Chip) (m : List ℕ) (w : World) (xs : List ℕ)
+    → runOf c m w xs .session .settings ≡ foldl (settingsOn c) (w .session .settings) (eventsOf c (w .session) xs)
+run-settings c m w xs =
+    run-fold c m (settingsOn c) (λ w. w .session .settings) (λ t. refl) (λ w x. settings-step c (w .session) x) w xs
 
 -- ---- the records
 
 -- the records of some events, by the banks and settings before them
-unfoldable pub recordsBy : List ℕ → Banks → Settings → List Event → List ℕ
-recordsBy m b t [] = []
-recordsBy m b t (e ∷ es) = recordOf m b t e ++ recordsBy m (banksAfter m b e) (settingsOn t e) es
+unfoldable pub recordsBy : Chip → List ℕ → Banks → Settings → List Event → List ℕ
+recordsBy c m b t [] = []
+recordsBy c m b t (e ∷ es) = recordOf c m b t e ++ recordsBy c m (banksAfter c m b e) (settingsOn c t e) es
 
 noted-records :
-    (m : List ℕ) (b : Banks) (t : Settings) (e : Event) (es : List Event)
-    → recordOf m b t e ++ recordsBy m (banksAfter m b e) (settingsOn t e) es ≡ recordsBy m b t (noted e es)
+    (c : Chip) (m : List ℕ) (b : Banks) (t : Settings) (e : Event) (es : List Event)
+    → recordOf c m b t e ++ recordsBy c m (banksAfter c m b e) (settingsOn c t e) es ≡ recordsBy c m b t (noted e es)
 unfolding recordsBy banksAfter recordOf
-noted-records m b t Nothing es = refl
-noted-records m b t (Whole read a v) es = refl
-noted-records m b t (Aborted a bits inData) es = refl
+noted-records c m b t Nothing es = refl
+noted-records c m b t (Whole read a v) es = refl
+noted-records c m b t (Aborted a bits inData) es = refl
 
 pub run-records :
-    (m : List ℕ) (w : World) (xs : List ℕ)
-    → recordsOf m w xs ≡ recordsBy m (w .banks) (w .session .settings) (eventsOf (w .session) xs)
+    (c : Chip) (m : List ℕ) (w : World) (xs : List ℕ)
+    → recordsOf c m w xs ≡ recordsBy c m (w .banks) (w .session .settings) (eventsOf c (w .session) xs)
 unfolding recordsOf eventsOf recordsBy
-run-records m w [] = refl
-run-records m w (x ∷ xs) =
-    let e : Event = eventOf (w .session) x in
-    let more : List Event = eventsOf (stepOf (w .session) x) xs in
-    ap (λ (l : List ℕ). recordOf m (w .banks) (w .session .settings) e ++ l)
-    (run-records m (worldAfter m w x) xs ∙ ap (λ (t : Settings). recordsBy m (banksAfter m (w .banks) e) t more) (settings-step (w .session) x))
-    ∙ noted-records m (w .banks) (w .session .settings) e more
+run-records c m w [] = refl
+run-records c m w (x ∷ xs) =
+    let e : Event = eventOf c (w .session) x in
+    let more : List Event = eventsOf c (stepOf c (w .session) x) xs in
+    ap (λ (l : List ℕ). recordOf c m (w .banks) (w .session .settings) e ++ l)
+    (run-records c m (worldAfter c m w x) xs ∙ ap (λ (t : Settings). recordsBy c m (banksAfter c m (w .banks) e) t more) (settings-step c (w .session) x))
+    ∙ noted-records c m (w .banks) (w .session .settings) e more
 
 noted-count : (e : Event) (es : List Event) → recordsIn e + length es ≡ length (noted e es)
 noted-count Nothing es = omega arith
 noted-count (Whole read a v) es = omega arith
 noted-count (Aborted a bits inData) es = omega arith
 
-pub run-count : (s : Session) (xs : List ℕ) → recordCount s xs ≡ length (eventsOf s xs)
+pub run-count : (c : Chip) (s : Session) (xs : List ℕ) → recordCount c s xs ≡ length (eventsOf c s xs)
 unfolding recordCount eventsOf
-run-count s [] = refl
-run-count s (x ∷ xs) =
-    ap (λ (n : ℕ). recordsIn (eventOf s x) + n) (run-count (stepOf s x) xs) ∙ noted-count (eventOf s x) (eventsOf (stepOf s x) xs)
+run-count c s [] = refl
+run-count c s (x ∷ xs) =
+    ap (λ (n : ℕ). recordsIn (eventOf c s x) + n) (run-count c (stepOf c s x) xs) ∙ noted-count (eventOf c s x) (eventsOf c (stepOf c s x) xs)

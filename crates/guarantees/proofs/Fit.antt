@@ -10,15 +10,17 @@ use lib.ListN.{replicate}
 use lib.Pow.{areBytes}
 use borrow.Author.Tests.{ltb-true}
 use Rattle.bits.proofs.Cases.{each, and-left, and-right, or-left, or-right}
+use Rattle.chip.specs.declared.Chip.{Chip}
+use Rattle.chip.specs.declared.Chip.the-variants.{Newer, Older}
 use Rattle.settings.specs.declared.Settings.{Settings}
 use Rattle.settings.specs.declared.InUse.{InUse}
-use Rattle.settings.specs.Settings.{inUseOf, nextAddress, settingsAfter}
+use Rattle.settings.specs.Settings.{inUseOf, counting, nextAddress, newerAfter}
 use Rattle.settings.proofs.Laws.{next-lt}
 use Rattle.run.specs.Reading.{World}
-use Rattle.order.specs.Order.{Order, RunByte, isRead, ascending, runFrom, sentBytes}
+use Rattle.order.specs.Order.{Order, RunByte, isRead, runFrom, sentBytes}
 use Rattle.order.specs.Number.{isConfiguration, configuresEarly}
 use Rattle.order.proofs.Laws.{admitted}
-use Rattle.guarantees.specs.AtRest.{AtRest, Accepted}
+use Rattle.guarantees.specs.AtRest.{countingOf, AtRest, Accepted}
 use Rattle.guarantees.proofs.Events.{settingsOn}
 use Rattle.guarantees.proofs.Runs.{wholeOf, AllFit}
 
@@ -39,20 +41,26 @@ sent-bytes : (read : Bool) (k : ℕ) (vs : List ℕ) → areBytes vs ≡ true �
 sent-bytes true k vs h = sent-zeros k
 sent-bytes false k vs h = sent-data vs h
 
-settings-kept : (t : Settings) (p : RunByte) → isConfiguration p ≡ false → settingsAfter t (p .address) (p .byte) ≡ t
-unfolding settingsAfter
+settings-kept : (t : Settings) (p : RunByte) → isConfiguration p ≡ false → newerAfter t (p .address) (p .byte) ≡ t
+unfolding newerAfter
 settings-kept t p h =
     rw (or-left (eqb (p .address) 0x0000) (eqb (p .address) 0x0001) h, or-right (eqb (p .address) 0x0000) (eqb (p .address) 0x0001) h)
 
 -- the next instruction finds the settings in use: in a stream there is none, a read changes no setting, and of a single-instruction write
 -- only the last byte may
 steady-on :
-    (single read : Bool) (u : InUse) (t : Settings) (p : RunByte) (early : Bool)
-    → (single && not read && (isConfiguration p || early)) ≡ false → cond single (inUseOf t) u ≡ u
-    → cond single (inUseOf (settingsOn t (wholeOf read p))) u ≡ u
-steady-on false read u t p early h e = e
-steady-on true true u t p early h e = e
-steady-on true false u t p early h e = rw (settings-kept t p (or-left (isConfiguration p) early h)) e
+    (c : Chip) (read : Bool) (u : InUse) (t : Settings) (p : RunByte) (early : Bool)
+    → (counting c u .single && not read && (isConfiguration p || early)) ≡ false → cond (counting c u .single) (inUseOf t) u ≡ u
+    → cond (counting c u .single) (inUseOf (settingsOn c t (wholeOf read p))) u ≡ u
+steady-on Newer read u t p early h e = by-mode (u .single) read h e
+  where
+    by-mode :
+        (single read : Bool) → (single && not read && (isConfiguration p || early)) ≡ false → cond single (inUseOf t) u ≡ u
+        → cond single (inUseOf (settingsOn Newer t (wholeOf read p))) u ≡ u
+    by-mode false read h e = e
+    by-mode true true h e = e
+    by-mode true false h e = rw (settings-kept t p (or-left (isConfiguration p) early h)) e
+steady-on (Older part top) read u t p early h e = e
 
 late-on :
     (single read first early : Bool)
@@ -61,31 +69,34 @@ late-on false read first early h = refl
 late-on true true first early h = refl
 late-on true false first early h = or-right first early h
 
-all-fit :
-    (read : Bool) (u : InUse) (t : Settings) (a : ℕ) (vs : List ℕ)
-    → a < 0x8000 → Sent read vs
-    → (u .single && not read && configuresEarly (runFrom (u .ascending) a vs)) ≡ false → cond (u .single) (inUseOf t) u ≡ u
-    → AllFit read u t (runFrom (u .ascending) a vs)
-unfolding runFrom configuresEarly
-all-fit read u t a [] near sent late steady = tt
-all-fit read u t a (v ∷ []) near sent late steady = (record { near = near; small = sent .0; zeros = sent .1; steady = steady }, tt)
-all-fit read u t a (v ∷ v' ∷ vs) near sent late steady =
-    let p : RunByte = record { address = a; byte = v } in
-    let next : ℕ = nextAddress (u .ascending) a in
-    let early : Bool = configuresEarly (runFrom (u .ascending) next (v' ∷ vs)) in
-    let later = late-on (u .single) read (isConfiguration p) early late in
-    let steady' = steady-on (u .single) read u t p early late steady in (
-      record { near = near; small = sent .0; zeros = sent .1; steady = steady },
-      all-fit read u (settingsOn t (wholeOf read p)) next (v' ∷ vs) (next-lt (u .ascending) a) (sent .2) later steady',
-    )
+module _ (c : Chip) (read : Bool) (u : InUse) where
+  all-fit :
+      (t : Settings) (a : ℕ) (vs : List ℕ)
+      → a < 0x8000 → Sent read vs
+      → (counting c u .single && not read && configuresEarly (runFrom (counting c u .ascending) a vs)) ≡ false
+      → cond (counting c u .single) (inUseOf t) u ≡ u
+      → AllFit c read u t (runFrom (counting c u .ascending) a vs)
+  unfolding runFrom configuresEarly
+  all-fit t a [] near sent late steady = tt
+  all-fit t a (v ∷ []) near sent late steady = (record { near = near; small = sent .0; zeros = sent .1; steady = steady }, tt)
+  all-fit t a (v ∷ v' ∷ vs) near sent late steady =
+      let p : RunByte = record { address = a; byte = v } in
+      let up : Bool = counting c u .ascending in
+      let next : ℕ = nextAddress up a in
+      let early : Bool = configuresEarly (runFrom up next (v' ∷ vs)) in
+      let later = late-on (counting c u .single) read (isConfiguration p) early late in
+      let steady' = steady-on c read u t p early late steady in (
+        record { near = near; small = sent .0; zeros = sent .1; steady = steady },
+        all-fit (settingsOn c t (wholeOf read p)) next (v' ∷ vs) (next-lt up a) (sent .2) later steady',
+      )
 
 pub order-fits :
-    (m : List ℕ) (w : World) (o : Order) (room : ℕ) → AtRest m w o → Accepted o room
-    → AllFit (isRead o) (inUseOf (w .session .settings)) (w .session .settings) (runFrom (w .session .settings .ascending) (o .start) (sentBytes o))
-order-fits m w o room rest accepted =
+    (c : Chip) (m : List ℕ) (w : World) (o : Order) (room : ℕ) → AtRest c m w o → Accepted c o room
+    → AllFit c (isRead o) (inUseOf (w .session .settings)) (w .session .settings) (runFrom (countingOf c w .ascending) (o .start) (sentBytes o))
+order-fits c m w o room rest accepted =
     let t : Settings = w .session .settings in
-    let sound = admitted o room (accepted .number) in
-    all-fit (isRead o) (inUseOf t) t (o .start) (sentBytes o) (omega (arith, sound .start))
+    let sound = admitted c o room (accepted .number) in
+    all-fit c (isRead o) (inUseOf t) t (o .start) (sentBytes o) (omega (arith, sound .start))
     (sent-bytes (isRead o) (o .count) (o .bytes) (accepted .data-bytes))
-    (rw (rest .same-single, rest .same-ascending) at (sound .not-early))
-    (each (λ (u : InUse). u ≡ inUseOf t) (t .single) (λ e. refl) (λ e. refl))
+    (rw (rest .same-single, rest .same-direction) at (sound .not-early))
+    (each (λ (u : InUse). u ≡ inUseOf t) (countingOf c w .single) (λ e. refl) (λ e. refl))

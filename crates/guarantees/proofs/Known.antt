@@ -12,8 +12,9 @@ use Rattle.regmap.specs.Format.{lengthOf, versionOf, countOf, headSizeIn, headO
 use Rattle.regmap.proofs.Laws.{head-size-bounds}
 use Rattle.maptest.specs.MapTest.{kindRule, placeRule, entryGood, entriesGood, mapNumber}
 use Rattle.maptest.proofs.Laws.{good-length, good-form}
-use Rattle.settings.specs.Settings.{settingsAfter, controlReading}
-use Rattle.session.specs.Step.{withInstructionBit, withDataBit, stepOf}
+use Rattle.chip.specs.declared.Chip.the-variants.{Newer}
+use Rattle.settings.specs.Settings.{newerAfter, newerReading}
+use Rattle.session.specs.Step.{entered, withInstructionBit, withDataBit, stepOf}
 use Rattle.session.specs.Event.{bitEvent, abortEvent, eventOf}
 use Rattle.registers.specs.Banks.{defaultsFrom, defaultBanks, transferFrom, transferred}
 use Rattle.registers.specs.Read.{dueByte}
@@ -31,16 +32,16 @@ use Rattle.guarantees.proofs.Blank.{good-8192}
 
 -- the length and the bytes of a good map of n registers in a version
 lengths-of :
-    (version n : ℕ) (m : List ℕ) → mapNumber m ≡ 0 → versionOf m ≡ version → countOf m ≡ n
+    (version n : ℕ) (m : List ℕ) → mapNumber Newer m ≡ 0 → versionOf m ≡ version → countOf m ≡ n
     → (lengthOf m ≡ headSizeIn version - 2 + 3 * n) × (length m ≡ headSizeIn version + 3 * n)
 unfolding headOf
 lengths-of version n m good v e =
     let head : headOf m ≡ headSizeIn version = ap headSizeIn v in
-    (omega (arith, good-length m good, head, e, head-size-bounds version), omega (arith, good-form m good, head, e))
+    (omega (arith, good-length Newer m good, head, e, head-size-bounds version), omega (arith, good-form Newer m good, head, e))
 
 pub known-results : KnownResults
 unfolding bitAt merged every turned isMirror countOf headOf entryAt kindRule placeRule entryGood entriesGood mapNumber
-    settingsAfter controlReading withInstructionBit withDataBit stepOf bitEvent abortEvent eventOf
+    newerAfter newerReading entered withInstructionBit withDataBit stepOf bitEvent abortEvent eventOf
     defaultsFrom defaultBanks transferFrom transferred controlEffect effectOf applied writeBanks writtenBy dueByte recordOf banksAfter runOf recordsOf
     runFrom highFirst lowFirst bitsOf byteBits runBits orderBits clocked samplesOf allSamples configuresEarly sendNumber
 known-results = record {
@@ -64,6 +65,6 @@ known-results = record {
   due-11 = refl;
   due-22 = refl;
   active-22 = refl;
-  thousand = record { taken = refl; given = length-samples (writeThousand 2) };
-  thousand-single = record { taken = refl; given = length-samples (writeThousand 6) };
+  thousand = record { taken = refl; given = length-samples Newer (writeThousand 2) };
+  thousand-single = record { taken = refl; given = length-samples Newer (writeThousand 6) };
 }

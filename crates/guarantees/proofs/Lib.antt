@@ -4,10 +4,13 @@ pub mod Buffered
 pub mod Calls
 pub mod Counts
 pub mod Done
+pub mod Ending
 pub mod Events
 pub mod Fit
+pub mod Goes
 pub mod InForce
 pub mod Known
+pub mod KnownOlder
 pub mod Lists
 pub mod Orders
 pub mod Pieces

@@ -7,6 +7,7 @@ use native.Mathlib.Omega.{arith}
 use lib.ListN.{length, take, drop, replicate, length-append, length-take, length-replicate, take-append-drop}
 use borrow.Author.Tests.{le-leb}
 use Rattle.sizes.specs.Sizes.{recordSize}
+use Rattle.chip.specs.declared.Chip.{Chip}
 use Rattle.run.specs.Reading.{World, recordCount}
 use Rattle.refusals.specs.Numbers.{samplesGood, readNumber}
 use Rattle.reader.specs.Calls.{readOf}
@@ -19,40 +20,40 @@ use Rattle.guarantees.specs.InForce.{NextDone, ListsExist}
 use Rattle.guarantees.proofs.Calls.{calls-run}
 use Rattle.guarantees.proofs.Done.{run-sound, rest-sound, no-refusal, good-append, good-samples, good-part, few-samples}
 
-stopped-good : (o : Order) (s raise : ℕ) → raise < 16 → samplesGood (stoppedSamples o s raise) ≡ true
+stopped-good : (c : Chip) (o : Order) (s raise : ℕ) → raise < 16 → samplesGood (stoppedSamples c o s raise) ≡ true
 unfolding samplesGood
-stopped-good o s raise h =
-    good-append (take s (samplesOf o)) (raise ∷ [])
+stopped-good c o s raise h =
+    good-append (take s (samplesOf c o)) (raise ∷ [])
     ∙ rw (
-      good-part (take s (samplesOf o)) (drop s (samplesOf o)) (samplesOf o) (take-append-drop s (samplesOf o)) (good-samples o) .0,
+      good-part (take s (samplesOf c o)) (drop s (samplesOf c o)) (samplesOf c o) (take-append-drop s (samplesOf c o)) (good-samples c o) .0,
       le-leb raise 15 (omega arith),
     )
 
-stopped-few : (o : Order) (room s raise : ℕ) → Accepted o room → length (stoppedSamples o s raise) ≤ 65536
-stopped-few o room s raise accepted =
-    omega (arith, length-append (take s (samplesOf o)) (raise ∷ []), length-take s (samplesOf o), few-samples o room accepted)
+stopped-few : (c : Chip) (o : Order) (room s raise : ℕ) → Accepted c o room → length (stoppedSamples c o s raise) ≤ 65536
+stopped-few c o room s raise accepted =
+    omega (arith, length-append (take s (samplesOf c o)) (raise ∷ []), length-take s (samplesOf c o), few-samples c o room accepted)
 
 pub next-done : NextDone
 unfolding readOf
-next-done m w o room s raise calls next rest records run read enough =
-    rw (no-refusal m after next (length records) (run .start .good-map)
-    (rw (calls-run m w calls) (run-sound m w (joined m w calls) (rest-sound m w o (run .start)))) fine few enough)
+next-done c m w o room s raise calls next rest records run read enough =
+    rw (no-refusal c m after next (length records) (run .start .good-map) (run .start .top)
+    (rw (calls-run c m w calls) (run-sound c m w (joined c m w calls) (rest-sound c m w o (run .start)))) fine few enough)
   where
     after : World
-    after = afterCalls m w calls
+    after = afterCalls c m w calls
 
     fine : samplesGood next ≡ true
     fine =
         good-part next rest (next ++ rest) refl
-        (good-part (joined m w calls) (next ++ rest) (stoppedSamples o s raise) read (stopped-good o s raise (run .sample)) .1) .0
+        (good-part (joined c m w calls) (next ++ rest) (stoppedSamples c o s raise) read (stopped-good c o s raise (run .sample)) .1) .0
 
     few : length next ≤ 65536
     few =
         omega (
           arith,
-          stopped-few o room s raise (run .accepted),
+          stopped-few c o room s raise (run .accepted),
           ap length read,
-          length-append (joined m w calls) (next ++ rest),
+          length-append (joined c m w calls) (next ++ rest),
           length-append next rest,
         )
 
@@ -60,13 +61,13 @@ next-done m w o room s raise calls next rest records run read enough =
 abbrev badCall : Call
 badCall = record { samples = 0x10 ∷ []; records = [] }
 
-bad-refused : (m : List ℕ) (w : World) (o : Order) → AtRest m w o → isDone m w badCall ≡ false
+bad-refused : (c : Chip) (m : List ℕ) (w : World) (o : Order) → AtRest c m w o → isDone c m w badCall ≡ false
 unfolding readOf readNumber samplesGood
-bad-refused m w o rest = rw (rest .sound, rest .good-map, rest .bank-sizes)
+bad-refused c m w o rest = rw (rest .sound, rest .good-map, rest .bank-sizes, rest .top)
 
 pub lists-exist : ListsExist
 unfolding afterCalls joined
-lists-exist m w o room s raise run = record {
+lists-exist c m w o room s raise run = record {
   first = badCall;
   more = whole ∷ [];
   refused = refused;
@@ -74,21 +75,21 @@ lists-exist m w o room s raise run = record {
 }
   where
     samples : List ℕ
-    samples = stoppedSamples o s raise
+    samples = stoppedSamples c o s raise
 
     after : World
-    after = outcomeOf m w badCall .world
+    after = outcomeOf c m w badCall .world
 
     size : ℕ
-    size = recordSize * recordCount (after .session) samples
+    size = recordSize * recordCount c (after .session) samples
 
     whole : Call
     whole = record { samples = samples; records = replicate size 0 }
 
-    refused : isDone m w badCall ≡ false
-    refused = bad-refused m w o (run .start)
+    refused : isDone c m w badCall ≡ false
+    refused = bad-refused c m w o (run .start)
 
-    done : isDone m after whole ≡ true
+    done : isDone c m after whole ≡ true
     done =
-        next-done m w o room s raise (badCall ∷ []) samples [] (replicate size 0) run (rw refused (append-nil samples))
+        next-done c m w o room s raise (badCall ∷ []) samples [] (replicate size 0) run (rw refused (append-nil samples))
         (omega (arith, length-replicate {A = ℕ} size 0))

@@ -1,8 +1,8 @@
 -- An accepted order, read by a session at rest with the same settings and stopped after any number of its samples: what happens is its whole
 -- bytes, in order, as many as the formula says.
-use Prim.Native.Nat.{ℕ, zero, suc, _-_, _/_, _<_, min}
+use Prim.Native.Nat.{ℕ, zero, suc, _-_, _/_, _≤_, min}
 use mathlib.Core.Path.{_≡_, refl, sym, ap, _∙_}
-use mathlib.Core.Bool.{Bool, true, false, cond}
+use mathlib.Core.Bool.{Bool, true, false, cond, false≢true}
 use mathlib.Core.List.{List, [], _∷_, _++_, map}
 use native.Mathlib.Nat.{min-zero, suc-min-suc}
 use native.Mathlib.Omega.{arith}
@@ -12,23 +12,29 @@ use lib.Seq.{take-nil}
 use borrow.Author.Tests.{ltb-true}
 use Rattle.bits.specs.Bits.{bitAt}
 use Rattle.bits.proofs.Cases.{each}
+use Rattle.chip.specs.Chip.{topGood}
+use Rattle.chip.specs.declared.Chip.{Chip}
+use Rattle.chip.specs.declared.Chip.the-variants.{Newer, Older}
 use Rattle.settings.specs.declared.Settings.{Settings}
-use Rattle.settings.specs.Settings.{inUseOf}
+use Rattle.settings.specs.declared.InUse.{InUse}
+use Rattle.settings.specs.Settings.{inUseOf, counting}
+use Rattle.session.specs.declared.Session.{Session}
 use Rattle.session.specs.declared.Event.{Event}
 use Rattle.session.specs.State.{resting, starting, inData}
 use Rattle.session.specs.Step.{stepOf}
 use Rattle.session.specs.Event.{eventOf}
 use Rattle.session.proofs.Form.{rest-form}
 use Rattle.run.specs.Reading.{World}
-use Rattle.order.specs.Order.{Order, RunByte, isRead, ascending, singleInstruction, runFrom, sentBytes, runBytes}
-use Rattle.order.specs.Samples.{bitsOf, instructionOf, runBits, orderBits, clocked, samplesOf}
-use Rattle.order.proofs.Laws.{admitted}
-use Rattle.guarantees.specs.AtRest.{AtRest, Accepted}
+use Rattle.order.specs.Order.{Order, RunByte, isRead, isSingle, runFrom, sentBytes, runBytes}
+use Rattle.order.specs.Samples.{bitsOf, instructionOf, lengthAndAddress, runBits, orderBits, clocked, samplesOf}
+use Rattle.order.proofs.Laws.{length-sent, top-low, older-start, admitted}
+use Rattle.guarantees.specs.AtRest.{countingOf, AtRest, Accepted}
 use Rattle.guarantees.specs.Book.{wholeBytes}
 use Rattle.guarantees.proofs.Events.{eventsOf}
-use Rattle.guarantees.proofs.Pieces.{ready, stopped-instruction}
-use Rattle.guarantees.proofs.Runs.{wholeOf, AllFit, clocked-then, period, ending, run-events}
+use Rattle.guarantees.proofs.Pieces.{leftOf, highest, TopFits, stopped-instruction}
+use Rattle.guarantees.proofs.Runs.{wholeOf, AllFit, Goes, clocked-then, period, ready, ending, run-events}
 use Rattle.guarantees.proofs.Fit.{order-fits}
+use Rattle.guarantees.proofs.Goes.{newer-goes, instruction-leaves, older-goes}
 
 -- whole bytes after j samples behind the first one
 abbrev wholeIn : Bool → ℕ → ℕ
@@ -36,23 +42,43 @@ wholeIn single j = cond single (j / 48) ((j - 32) / 16)
 
 -- the bits of a run, with the instruction that a stream begins with
 abbrev bitsFrom : Bool → Bool → Bool → ℕ → List RunByte → List Bool
-bitsFrom single read lsb a ps = cond single [] (bitsOf lsb 16 (instructionOf read a)) ++ runBits single read lsb ps
+bitsFrom single read lsb x ps = cond single [] (bitsOf lsb 16 (instructionOf read x)) ++ runBits single read lsb ps
+
+-- what a run of k bytes from an address on finds on a chip, so that it goes to its last byte
+pub record Ready (c : Chip) (t : Settings) (k a : ℕ) (vs : List ℕ) : Type 0 where
+  pub top : TopFits c
+  pub start : a ≤ highest c
+  pub some : 1 ≤ length vs
+  pub goes : Goes c (inUseOf t) (leftOf c k) a vs
+
+-- with single instruction there is nothing left: it is a newer chip's
+single-leaves : (c : Chip) (u : InUse) (k : ℕ) → counting c u .single ≡ true → leftOf c k ≡ 0
+single-leaves Newer u k e = refl
+single-leaves (Older part top) u k e = absurd (false≢true e)
 
 -- from the start of the first instruction, by the session's own settings
 from-start :
-    (read : Bool) (t : Settings) (a j : ℕ) (vs : List ℕ) → a < 0x8000 → AllFit read (inUseOf t) t (runFrom (t .ascending) a vs)
-    → eventsOf (starting false t) (take j (clocked (bitsFrom (t .single) read (t .lsb) a (runFrom (t .ascending) a vs)) ++ ending))
-    ≡ map (wholeOf read) (take (wholeIn (t .single) j) (runFrom (t .ascending) a vs))
-from-start read t a j vs near fit = by-mode (t .single) (λ i sclk. run-events read (inUseOf t) vs t a i sclk fit)
+    (c : Chip) (read : Bool) (t : Settings) (k a j : ℕ) (vs : List ℕ) → Ready c t k a vs
+    → AllFit c read (inUseOf t) t (runFrom (counting c (inUseOf t) .ascending) a vs)
+    → eventsOf c (starting false t)
+    (take j (clocked (bitsFrom (counting c (inUseOf t) .single) read (t .lsb) (lengthAndAddress c k a) (runFrom (counting c (inUseOf t) .ascending) a vs)) ++ ending))
+    ≡ map (wholeOf read) (take (wholeIn (counting c (inUseOf t) .single) j) (runFrom (counting c (inUseOf t) .ascending) a vs))
+from-start c read t k a j [] r fit = absurd (omega (arith, r .some))
+from-start c read t k a j (v ∷ vs) r fit =
+    by-mode (counting c (inUseOf t) .single)
+    (λ i sclk. run-events c read (inUseOf t) vs v t a (leftOf c k) i sclk fit (r .goes) (single-leaves c (inUseOf t) k))
   where
     ps : List RunByte
-    ps = runFrom (t .ascending) a vs
+    ps = runFrom (counting c (inUseOf t) .ascending) a (v ∷ vs)
 
     samples : Bool → List ℕ
     samples single = clocked (runBits single read (t .lsb) ps) ++ ending
 
+    entered : Session
+    entered = inData true 0 0 a read (leftOf c k) t (inUseOf t)
+
     later : List Event
-    later = eventsOf (inData true 0 0 a read t (inUseOf t)) (take (j - 32) (samples false))
+    later = eventsOf c entered (take (j - 32) (samples false))
 
     -- in a stream nothing happens in the instruction
     by-size :
@@ -64,18 +90,20 @@ from-start read t a j vs near fit = by-mode (t .single) (λ i sclk. run-events r
     by-mode :
         (single : Bool)
         → ((i : ℕ) (sclk : Bool)
-        → eventsOf (ready sclk single read t (inUseOf t) a) (take i (samples single)) ≡ map (wholeOf read) (take (i / period single) ps))
-        → eventsOf (starting false t) (take j (clocked (bitsFrom single read (t .lsb) a ps) ++ ending)) ≡ map (wholeOf read) (take (wholeIn single j) ps)
+        → eventsOf c (cond single (starting sclk t) (inData sclk 0 0 a read (leftOf c k) t (inUseOf t))) (take i (samples single))
+        ≡ map (wholeOf read) (take (i / period single) ps))
+        → eventsOf c (starting false t) (take j (clocked (bitsFrom single read (t .lsb) (lengthAndAddress c k a) ps) ++ ending))
+        ≡ map (wholeOf read) (take (wholeIn single j) ps)
     by-mode true bytes = bytes j false
     by-mode false bytes =
-        ap (λ (l : List ℕ). eventsOf (starting false t) (take j l))
-        (clocked-then (bitsOf (t .lsb) 16 (instructionOf read a)) (runBits false read (t .lsb) ps) ending)
-        ∙ stopped-instruction read t (inUseOf t) a j false (samples false) near
+        ap (λ (l : List ℕ). eventsOf c (starting false t) (take j l))
+        (clocked-then (bitsOf (t .lsb) 16 (instructionOf read (lengthAndAddress c k a))) (runBits false read (t .lsb) ps) ending)
+        ∙ stopped-instruction c k read t (inUseOf t) a (r .top) (r .start) j false (samples false)
         ∙ by-size (ltb j 32) refl (bytes (j - 32) true)
 
-first-sample : (sclk : Bool) (t : Settings) (xs : List ℕ) → eventsOf (resting sclk t) (0x00 ∷ xs) ≡ eventsOf (starting false t) xs
+first-sample : (c : Chip) (sclk : Bool) (t : Settings) (xs : List ℕ) → eventsOf c (resting sclk t) (0x00 ∷ xs) ≡ eventsOf c (starting false t) xs
 unfolding eventsOf stepOf eventOf bitAt
-first-sample sclk t xs = refl
+first-sample c sclk t xs = refl
 
 past-first : (single : Bool) (j : ℕ) → cond single ((suc j - 1) / 48) ((suc j - 33) / 16) ≡ wholeIn single j
 past-first true j = omega arith
@@ -87,21 +115,43 @@ take-min zero (x ∷ l) = ap (λ (k : ℕ). take k (x ∷ l)) (min-zero (suc (le
 take-min {A} (suc n) (x ∷ l) =
     ap (λ (k : ℕ). take k (x ∷ l)) (suc-min-suc (length l) n) ∙ ap {B = List A} (λ (r : List A). x ∷ r) (take-min n l)
 
-pub order-events :
-    (m : List ℕ) (w : World) (o : Order) (room : ℕ) → AtRest m w o → Accepted o room → (s : ℕ)
-    → eventsOf (w .session) (take s (samplesOf o)) ≡ map (wholeOf (isRead o)) (take (wholeBytes o s) (runBytes o))
-unfolding samplesOf orderBits wholeBytes eventsOf
-order-events m w o room rest accepted s = rw (rest-form (w .session) (rest .sound) (rest .at-rest), take-min) (by-stop s)
-  where
-    near : o .start < 0x8000
-    near = omega (arith, admitted o room (accepted .number) .start)
+-- an accepted order finds all that
+pub order-ready : (c : Chip) (m : List ℕ) (w : World) (o : Order) (room : ℕ) → AtRest c m w o → Accepted c o room
+    → Ready c (w .session .settings) (o .count) (o .start) (sentBytes o)
+order-ready Newer m w o room rest accepted =
+    let a = admitted Newer o room (accepted .number) in
+    record {
+      top = tt;
+      start = a .start;
+      some = omega (arith, a .count .some, length-sent (isRead o) (o .count) (o .bytes) (a .count .data-length));
+      goes = newer-goes (inUseOf (w .session .settings)) (sentBytes o) 0 (o .start);
+    }
+order-ready (Older part top) m w o room rest accepted =
+    let a = admitted (Older part top) o room (accepted .number) in
+    let low = top-low part top (a .top) in
+    let sent = length-sent (isRead o) (o .count) (o .bytes) (a .count .data-length) in
+    record {
+      top = low;
+      start = older-start part top o (a .count) (a .addresses);
+      some = omega (arith, a .count .some, sent);
+      goes = older-goes part top (inUseOf (w .session .settings)) (sentBytes o) _ (o .start) (omega (arith, low))
+          (rw sent (instruction-leaves (o .count) (a .count .some))) (rw (rest .same-lsb) at (a .addresses));
+    }
 
+pub order-events :
+    (c : Chip) (m : List ℕ) (w : World) (o : Order) (room : ℕ) → AtRest c m w o → Accepted c o room → (s : ℕ)
+    → eventsOf c (w .session) (take s (samplesOf c o)) ≡ map (wholeOf (isRead o)) (take (wholeBytes c o s) (runBytes c o))
+unfolding samplesOf orderBits wholeBytes eventsOf
+order-events c m w o room rest accepted s =
+    rw (rest-form c (w .session) (rest .sound) (rest .at-rest) (rest .deselected), take-min) (by-stop s)
+  where
     by-stop :
         (s : ℕ)
-        → eventsOf (resting (w .session .sclk) (w .session .settings)) (take s (samplesOf o))
-        ≡ map (wholeOf (isRead o)) (take (cond (singleInstruction o) ((s - 1) / 48) ((s - 33) / 16)) (runBytes o))
-    by-stop zero = each (λ (n : ℕ). [] ≡ map (wholeOf (isRead o)) (take n (runBytes o))) (singleInstruction o) (λ e. refl) (λ e. refl)
+        → eventsOf c (resting (w .session .sclk) (w .session .settings)) (take s (samplesOf c o))
+        ≡ map (wholeOf (isRead o)) (take (cond (isSingle c o) ((s - 1) / 48) ((s - 33) / 16)) (runBytes c o))
+    by-stop zero = each (λ (n : ℕ). [] ≡ map (wholeOf (isRead o)) (take n (runBytes c o))) (isSingle c o) (λ e. refl) (λ e. refl)
     by-stop (suc j) =
-        first-sample (w .session .sclk) (w .session .settings) (take j (clocked (orderBits o) ++ ending))
-        ∙ rw (past-first, rest .same-lsb, rest .same-ascending, rest .same-single)
-        (from-start (isRead o) (w .session .settings) (o .start) j (sentBytes o) near (order-fits m w o room rest accepted))
+        first-sample c (w .session .sclk) (w .session .settings) (take j (clocked (orderBits c o) ++ ending))
+        ∙ rw (past-first, rest .same-direction, rest .same-single, rest .same-lsb)
+        (from-start c (isRead o) (w .session .settings) (o .count) (o .start) j (sentBytes o)
+        (order-ready c m w o room rest accepted) (order-fits c m w o room rest accepted))

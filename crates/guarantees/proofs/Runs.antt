@@ -1,7 +1,7 @@
 -- A run of bytes, stopped after any number of its samples: what happens is its whole bytes, in order.
 use Prim.Native.Nat.{ℕ, _-_, _/_, _<_}
 use mathlib.Core.Path.{_≡_, refl, sym, ap, _∙_}
-use mathlib.Core.Bool.{Bool, true, false, cond}
+use mathlib.Core.Bool.{Bool, true, false, cond, false≢true}
 use mathlib.Core.List.{List, [], _∷_, _++_, append-assoc, map}
 use native.Mathlib.Nat.{div-eq-of-lt, div-eq-sub-div}
 use native.Mathlib.Numerals.{add-one}
@@ -11,34 +11,45 @@ use lib.Dec.{ltb}
 use lib.ListN.{take}
 use lib.Seq.{take-nil}
 use borrow.Author.Tests.{lt-ltb, le-ltb, ltb-true, ltb-false}
+use Rattle.bits.proofs.Cases.{each}
+use Rattle.chip.specs.declared.Chip.{Chip}
+use Rattle.chip.specs.declared.Chip.the-variants.{Newer, Older}
 use Rattle.settings.specs.declared.Settings.{Settings}
 use Rattle.settings.specs.declared.InUse.{InUse}
-use Rattle.settings.specs.Settings.{inUseOf, nextAddress}
-use Rattle.session.specs.declared.Phase.the-variants.{Instruction, Data}
+use Rattle.settings.specs.Settings.{inUseOf, counting, nextAddress}
+use Rattle.session.specs.declared.Phase.the-variants.{Rest, Instruction, Data}
 use Rattle.session.specs.declared.Session.{Session}
 use Rattle.session.specs.declared.Event.{Event}
 use Rattle.session.specs.declared.Event.the-variants.{Whole}
-use Rattle.session.specs.State.{instructing}
+use Rattle.session.specs.State.{noneInUse, instructing, starting, inData}
+use Rattle.session.specs.Step.{runsOut}
+use Rattle.session.proofs.Form.{leftAfter}
 use Rattle.order.specs.Order.{RunByte, runFrom}
 use Rattle.order.specs.Samples.{bitsOf, instructionOf, byteBits, runBits, clocked}
 use Rattle.order.proofs.Laws.{clocked-append}
 use Rattle.guarantees.proofs.Events.{eventsOf, settingsOn}
-use Rattle.guarantees.proofs.Pieces.{ready, written, quiet-end, stopped-instruction, stopped-byte}
+use Rattle.guarantees.proofs.Pieces.{afterWhole, quiet-end, stopped-instruction, stopped-byte}
 
 -- the event of a byte of a run
 abbrev pub wholeOf : Bool → RunByte → Event
 wholeOf read p = Whole read (p .address) (p .byte)
 
 -- What a byte of a run has, with the settings before it: a read sends zeros, and an instruction of its own finds the settings in use.
-pub record Fits (read : Bool) (u : InUse) (t : Settings) (p : RunByte) : Type 0 where
+pub record Fits (c : Chip) (read : Bool) (u : InUse) (t : Settings) (p : RunByte) : Type 0 where
   pub near : p .address < 0x8000
   pub small : p .byte < 256
   pub zeros : cond read (p .byte) 0 ≡ 0
-  pub steady : cond (u .single) (inUseOf t) u ≡ u
+  pub steady : cond (counting c u .single) (inUseOf t) u ≡ u
 
-abbrev pub AllFit : Bool → InUse → Settings → List RunByte → Type 0
-AllFit read u t [] = Unit {0}
-AllFit read u t (p ∷ ps) = Fits read u t p × AllFit read u (settingsOn t (wholeOf read p)) ps
+abbrev pub AllFit : Chip → Bool → InUse → Settings → List RunByte → Type 0
+AllFit c read u t [] = Unit {0}
+AllFit c read u t (p ∷ ps) = Fits c read u t p × AllFit c read u (settingsOn c t (wholeOf read p)) ps
+
+-- The run does not end before its last byte: neither the count nor the end of the addresses comes sooner.
+abbrev pub Goes : Chip → InUse → ℕ → ℕ → List ℕ → Type 0
+Goes c u left a [] = Unit {0}
+Goes c u left a (v ∷ []) = Unit {0}
+Goes c u left a (v ∷ w ∷ vs) = (runsOut c left a (u .lsb) ≡ false) × Goes c u (leftAfter left) (nextAddress (counting c u .ascending) a) (w ∷ vs)
 
 pub clocked-then : (bs cs : List Bool) (more : List ℕ) → clocked (bs ++ cs) ++ more ≡ clocked bs ++ (clocked cs ++ more)
 clocked-then bs cs more = rw clocked-append (append-assoc (clocked bs) (clocked cs) more)
@@ -46,6 +57,10 @@ clocked-then bs cs more = rw clocked-append (append-assoc (clocked bs) (clocked 
 -- how many samples a byte has
 abbrev pub period : Bool → ℕ
 period single = cond single 48 16
+
+period-pos : (single : Bool) → 0 < period single
+period-pos true = omega arith
+period-pos false = omega arith
 
 -- an instruction and its byte, as one piece
 two-pieces :
@@ -63,13 +78,30 @@ two-pieces j none some = by-tests (ltb j 32) (ltb j 48) refl refl
         let same : j - 32 - 16 ≡ j - 48 = omega arith in
         rw (le-ltb (j - 32) 16 (omega (arith, ltb-false j 32 e, ltb-false j 48 f)), same)
 
-module _ (read : Bool) (u : InUse) (t : Settings) (p : RunByte) (fits : Fits read u t p) where
+-- before a byte: with single instruction in use, an instruction starts
+abbrev pub ready : Chip → Bool → Bool → ℕ → Settings → InUse → ℕ → Session
+ready c sclk read left t u a = cond (counting c u .single) (starting sclk t) (inData sclk 0 0 a read left t u)
+
+module _ (c : Chip) (read : Bool) (u : InUse) (t : Settings) (left : ℕ) (p : RunByte) (fits : Fits c read u t p) where
+  -- single instruction is a newer chip's: its instruction enters data with nothing left
+  single-left : counting c u .single ≡ true → left ≡ 0 → (j : ℕ) (sclk : Bool) (more : List ℕ)
+      → eventsOf c (instructing sclk 0 0 t u) (take j (clocked (bitsOf (u .lsb) 16 (instructionOf read (p .address))) ++ more))
+      ≡ cond (ltb j 32) [] (eventsOf c (inData true 0 0 (p .address) read left t u) (take (j - 32) more))
+  single-left e z j sclk more = by c e
+    where
+      by : (k : Chip) → counting k u .single ≡ true
+          → eventsOf k (instructing sclk 0 0 t u) (take j (clocked (bitsOf (u .lsb) 16 (instructionOf read (p .address))) ++ more))
+          ≡ cond (ltb j 32) [] (eventsOf k (inData true 0 0 (p .address) read left t u) (take (j - 32) more))
+      by Newer e = rw z (stopped-instruction Newer 0 read t u (p .address) tt (omega (arith, fits .near)) j sclk more)
+      by (Older part top) e = absurd (false≢true e)
+
   -- one byte of a run and what comes after it, stopped after j samples
-  stopped-run-byte : (j : ℕ) (sclk : Bool) (more : List ℕ)
-      → eventsOf (ready sclk (u .single) read t u (p .address)) (take j (clocked (byteBits (u .single) read (u .lsb) p) ++ more))
-      ≡ cond (ltb j (period (u .single))) [] (written read t u (p .address) (p .byte) (take (j - period (u .single)) more))
+  stopped-run-byte : (counting c u .single ≡ true → left ≡ 0) → (j : ℕ) (sclk : Bool) (more : List ℕ)
+      → eventsOf c (ready c sclk read left t u (p .address)) (take j (clocked (byteBits (counting c u .single) read (u .lsb) p) ++ more))
+      ≡ cond (ltb j (period (counting c u .single))) []
+      (wholeOf read p ∷ eventsOf c (afterWhole c read t u (p .address) left (p .byte)) (take (j - period (counting c u .single)) more))
   unfolding byteBits
-  stopped-run-byte j sclk more = by-mode (u .single) (fits .steady)
+  stopped-run-byte none j sclk more = by-mode (counting c u .single) refl (fits .steady)
     where
       instruction : List Bool
       instruction = bitsOf (u .lsb) 16 (instructionOf read (p .address))
@@ -78,73 +110,97 @@ module _ (read : Bool) (u : InUse) (t : Settings) (p : RunByte) (fits : Fits rea
       byte = bitsOf (u .lsb) 8 (p .byte)
 
       then : ℕ → List Event
-      then i = written read t u (p .address) (p .byte) (take i more)
+      then i = wholeOf read p ∷ eventsOf c (afterWhole c read t u (p .address) left (p .byte)) (take i more)
 
-      by-mode : (single : Bool) → cond single (inUseOf t) u ≡ u
-          → eventsOf (ready sclk single read t u (p .address)) (take j (clocked (cond single instruction [] ++ byte) ++ more))
+      by-mode : (single : Bool) → counting c u .single ≡ single → cond single (inUseOf t) u ≡ u
+          → eventsOf c (cond single (starting sclk t) (inData sclk 0 0 (p .address) read left t u))
+          (take j (clocked (cond single instruction [] ++ byte) ++ more))
           ≡ cond (ltb j (period single)) [] (then (j - period single))
-      by-mode true e =
-          ap (λ (v : InUse). eventsOf (instructing sclk 0 0 t v) (take j (clocked (instruction ++ byte) ++ more))) e
-          ∙ ap (λ (l : List ℕ). eventsOf (instructing sclk 0 0 t u) (take j l)) (clocked-then instruction byte more)
-          ∙ stopped-instruction read t u (p .address) j sclk (clocked byte ++ more) (fits .near)
+      by-mode true m e =
+          ap (λ (v : InUse). eventsOf c (instructing sclk 0 0 t v) (take j (clocked (instruction ++ byte) ++ more))) e
+          ∙ ap (λ (l : List ℕ). eventsOf c (instructing sclk 0 0 t u) (take j l)) (clocked-then instruction byte more)
+          ∙ single-left m (none m) j sclk (clocked byte ++ more)
           ∙ ap (λ (l : List Event). cond (ltb j 32) [] l)
-          (stopped-byte read t u (p .address) (p .byte) (j - 32) true more (fits .small) (fits .zeros))
+          (stopped-byte c read t u (p .address) left (p .byte) (fits .small) (fits .zeros) (j - 32) true more)
           ∙ two-pieces j [] then
-      by-mode false e = stopped-byte read t u (p .address) (p .byte) j sclk more (fits .small) (fits .zeros)
+      by-mode false m e = stopped-byte c read t u (p .address) left (p .byte) (fits .small) (fits .zeros) j sclk more
 
 -- what comes after the last byte: 0x00, and the raise
 abbrev pub ending : List ℕ
 ending = 0x00 ∷ 0x01 ∷ []
 
-ends-quietly :
-    (single read : Bool) (t : Settings) (u : InUse) (a j : ℕ) (sclk : Bool)
-    → eventsOf (ready sclk single read t u a) (take j ending) ≡ []
-ends-quietly true read t u a j sclk = quiet-end Instruction 0 false t (inUseOf t) j sclk
-ends-quietly false read t u a j sclk = quiet-end Data a read t u j sclk
-
-period-pos : (single : Bool) → 0 < period single
-period-pos true = omega arith
-period-pos false = omega arith
-
-pub run-events :
-    (read : Bool) (u : InUse) (vs : List ℕ) (t : Settings) (a j : ℕ) (sclk : Bool) → AllFit read u t (runFrom (u .ascending) a vs)
-    → eventsOf (ready sclk (u .single) read t u a) (take j (clocked (runBits (u .single) read (u .lsb) (runFrom (u .ascending) a vs)) ++ ending))
-    ≡ map (wholeOf read) (take (j / period (u .single)) (runFrom (u .ascending) a vs))
-unfolding runFrom runBits clocked
-run-events read u [] t a j sclk fit =
-    ends-quietly (u .single) read t u a j sclk ∙ sym (ap (map (wholeOf read)) (take-nil (j / period (u .single))))
-run-events read u (v ∷ vs) t a j sclk fit =
-    ap (λ (l : List ℕ). eventsOf now (take j l)) (clocked-then first (runBits (u .single) read (u .lsb) ps) ending)
-    ∙ stopped-run-byte read u t p (fit .0) j sclk more
-    ∙ by-size (decLt j size) (run-events read u vs (settingsOn t (wholeOf read p)) next (j - size) true (fit .1))
+-- after the last byte nothing happens, whether the run ends there or not
+ends-quietly : (c : Chip) (read : Bool) (t : Settings) (u : InUse) (a left v j : ℕ) → eventsOf c (afterWhole c read t u a left v) (take j ending) ≡ []
+ends-quietly c read t u a left v j =
+    each Quiet (counting c u .single) (λ e. quiet-end c Instruction 0 false 0 _ _ j true)
+    (λ e. each Quiet (runsOut c left a (u .lsb)) (λ e. quiet-end c Rest 0 false 0 _ noneInUse j true)
+    (λ e. quiet-end c Data _ read _ _ u j true))
   where
-    size : ℕ
-    size = period (u .single)
+    Quiet : Session → Type 0
+    Quiet s = eventsOf c s (take j ending) ≡ []
 
-    next : ℕ
-    next = nextAddress (u .ascending) a
+module _ (c : Chip) (read : Bool) (u : InUse) where
+  -- the run from an address on, and its samples with the ending
+  unfoldable run : ℕ → List ℕ → List RunByte
+  run a vs = runFrom (counting c u .ascending) a vs
 
-    p : RunByte
-    p = record { address = a; byte = v }
+  unfoldable samples : List RunByte → List ℕ
+  samples ps = clocked (runBits (counting c u .single) read (u .lsb) ps) ++ ending
 
-    ps : List RunByte
-    ps = runFrom (u .ascending) next vs
+  module _ (vs : List ℕ) (v : ℕ) (t : Settings) (a left j : ℕ) (sclk : Bool) where
+    abbrev first : RunByte
+    first = record { address = a; byte = v }
 
-    now : Session
-    now = ready sclk (u .single) read t u a
+    unfoldable next : ℕ
+    next = nextAddress (counting c u .ascending) a
 
-    first : List Bool
-    first = byteBits (u .single) read (u .lsb) p
+    unfoldable size : ℕ
+    size = period (counting c u .single)
 
-    more : List ℕ
-    more = clocked (runBits (u .single) read (u .lsb) ps) ++ ending
+    unfoldable rest : List ℕ → List Event
+    rest xs = eventsOf c (afterWhole c read t u a left v) xs
 
-    later : List Event
-    later = eventsOf (ready true (u .single) read (settingsOn t (wholeOf read p)) u next) (take (j - size) more)
-
-    by-size : Dec (j < size) → later ≡ map (wholeOf read) (take ((j - size) / size) ps)
-        → cond (ltb j size) [] (wholeOf read p ∷ later) ≡ map (wholeOf read) (take (j / size) (p ∷ ps))
-    by-size (yes h) ih = rw (lt-ltb j size h, div-eq-of-lt h)
-    by-size (no h) ih =
-        let one-more = div-eq-sub-div {m = size} {n = j} (period-pos (u .single)) (omega arith) ∙ add-one ((j - size) / size) in
+    by-size : 0 < size → Dec (j < size) → rest (take (j - size) (samples (run next vs))) ≡ map (wholeOf read) (take ((j - size) / size) (run next vs))
+        → cond (ltb j size) [] (wholeOf read first ∷ rest (take (j - size) (samples (run next vs))))
+        ≡ map (wholeOf read) (take (j / size) (first ∷ run next vs))
+    by-size some (yes h) ih = rw (lt-ltb j size h, div-eq-of-lt h)
+    by-size some (no h) ih =
+        let one-more = div-eq-sub-div {m = size} {n = j} some (omega arith) ∙ add-one ((j - size) / size) in
         rw (le-ltb j size (omega arith), one-more, ih)
+
+    -- one byte, by what comes after it
+    byte-then : Fits c read u t first → (counting c u .single ≡ true → left ≡ 0)
+        → rest (take (j - size) (samples (run next vs))) ≡ map (wholeOf read) (take ((j - size) / size) (run next vs))
+        → eventsOf c (ready c sclk read left t u a) (take j (samples (run a (v ∷ vs)))) ≡ map (wholeOf read) (take (j / size) (run a (v ∷ vs)))
+    unfolding run samples runFrom runBits next size rest
+    byte-then fits none ih =
+        ap (λ (l : List ℕ). eventsOf c (ready c sclk read left t u a) (take j l))
+        (clocked-then (byteBits (counting c u .single) read (u .lsb) first) (runBits (counting c u .single) read (u .lsb) (run next vs)) ending)
+        ∙ stopped-run-byte c read u t left first fits none j sclk (samples (run next vs))
+        ∙ by-size (period-pos (counting c u .single)) (decLt j size) ih
+
+  -- after a byte that is not the last, the run goes on with what is left
+  pub goes-on : (t : Settings) (a left v : ℕ) → runsOut c left a (u .lsb) ≡ false
+      → afterWhole c read t u a left v
+      ≡ ready c true read (leftAfter left) (settingsOn c t (Whole read a v)) u (nextAddress (counting c u .ascending) a)
+  goes-on t a left v h = rw h
+
+  pub run-events :
+      (vs : List ℕ) (v : ℕ) (t : Settings) (a left j : ℕ) (sclk : Bool) → AllFit c read u t (runFrom (counting c u .ascending) a (v ∷ vs))
+      → Goes c u left a (v ∷ vs) → (counting c u .single ≡ true → left ≡ 0)
+      → eventsOf c (ready c sclk read left t u a)
+      (take j (clocked (runBits (counting c u .single) read (u .lsb) (runFrom (counting c u .ascending) a (v ∷ vs))) ++ ending))
+      ≡ map (wholeOf read) (take (j / period (counting c u .single)) (runFrom (counting c u .ascending) a (v ∷ vs)))
+  unfolding run samples runFrom runBits clocked next size rest
+  run-events [] v t a left j sclk fit goes none =
+      byte-then [] v t a left j sclk (fit .0) none
+      (ends-quietly c read t u a left v (j - period (counting c u .single))
+      ∙ sym (ap (map (wholeOf read)) (take-nil ((j - period (counting c u .single)) / period (counting c u .single)))))
+  run-events (w ∷ ws) v t a left j sclk fit goes none =
+      byte-then (w ∷ ws) v t a left j sclk (fit .0) none
+      (rw (goes-on t a left v (goes .0))
+      (run-events ws w (settingsOn c t (Whole read a v)) (nextAddress (counting c u .ascending) a) (leftAfter left)
+      (j - period (counting c u .single)) true (fit .1) (goes .1) (λ e. still (none e))))
+    where
+      still : left ≡ 0 → leftAfter left ≡ 0
+      still z = rw z

@@ -3,8 +3,11 @@ use Prim.Native.Nat.{ℕ, zero, suc, _+_}
 use mathlib.Core.Path.{_≡_, refl, ap, sym, _∙_}
 use mathlib.Core.List.{List, [], _∷_}
 use Rattle.regmap.specs.Format.{countOf, SameRegisters}
+use Rattle.maptest.specs.MapTest.{topFits}
 use Rattle.convert.proofs.Laws.{accepted}
 use Rattle.convert.proofs.Made.{converted-maps}
+use Rattle.chip.specs.declared.Chip.{Chip}
+use Rattle.chip.specs.declared.Chip.the-variants.{Newer, Older}
 use Rattle.settings.specs.declared.Settings.{Settings}
 use Rattle.session.specs.declared.Event.{Event}
 use Rattle.session.specs.declared.Event.the-variants as event
@@ -21,7 +24,7 @@ use Rattle.refusals.specs.Numbers.{openNumber, readNumber}
 use Rattle.reader.specs.Calls.{openOf, readOf}
 use Rattle.guarantees.specs.SameMap.{SameMap, ConvertedAlike}
 
-module _ (m m′ : List ℕ) (s : SameRegisters m m′) where
+module _ (c : Chip) (m m′ : List ℕ) (s : SameRegisters m m′) where
   defaults-same : (a k : ℕ) → defaultsFrom m a k ≡ defaultsFrom m′ a k
   unfolding defaultsFrom
   defaults-same a zero = refl
@@ -50,44 +53,49 @@ module _ (m m′ : List ℕ) (s : SameRegisters m m′) where
   applied-same b a Reset = opened-same
   applied-same b a Ignored = refl
 
-  write-same : (b : Banks) (a v : ℕ) → writeBanks m b a v ≡ writeBanks m′ b a v
+  write-same : (b : Banks) (a v : ℕ) → writeBanks c m b a v ≡ writeBanks c m′ b a v
   unfolding writeBanks
-  write-same b a v = rw (s .same-entry a) (applied-same b a (effectAt m′ b a v))
+  write-same b a v = rw (s .same-entry a) (applied-same b a (effectAt c m′ b a v))
 
-  record-same : (b : Banks) (t : Settings) (e : Event) → recordOf m b t e ≡ recordOf m′ b t e
+  record-same : (b : Banks) (t : Settings) (e : Event) → recordOf c m b t e ≡ recordOf c m′ b t e
   unfolding recordOf dueByte
   record-same b t event.Nothing = refl
   record-same b t (event.Whole read a v) = rw (s .same-entry a)
   record-same b t (event.Aborted a bits inData) = refl
 
-  after-same : (b : Banks) (e : Event) → banksAfter m b e ≡ banksAfter m′ b e
+  after-same : (b : Banks) (e : Event) → banksAfter c m b e ≡ banksAfter c m′ b e
   unfolding banksAfter
   after-same b event.Nothing = refl
   after-same b (event.Whole read a v) = rw (write-same b a v)
   after-same b (event.Aborted a bits inData) = refl
 
-  one-same : (w : World) (x : ℕ) → worldAfter m w x ≡ worldAfter m′ w x
-  one-same w x = rw (after-same (w .banks) (eventOf (w .session) x))
+  one-same : (w : World) (x : ℕ) → worldAfter c m w x ≡ worldAfter c m′ w x
+  one-same w x = rw (after-same (w .banks) (eventOf c (w .session) x))
 
-  run-same : (w : World) (xs : List ℕ) → runOf m w xs ≡ runOf m′ w xs
+  run-same : (w : World) (xs : List ℕ) → runOf c m w xs ≡ runOf c m′ w xs
   unfolding runOf
   run-same w [] = refl
-  run-same w (x ∷ xs) = run-same (worldAfter m w x) xs ∙ ap (λ (v : World). runOf m′ v xs) (one-same w x)
+  run-same w (x ∷ xs) = run-same (worldAfter c m w x) xs ∙ ap (λ (v : World). runOf c m′ v xs) (one-same w x)
 
-  records-same : (w : World) (xs : List ℕ) → recordsOf m w xs ≡ recordsOf m′ w xs
+  records-same : (w : World) (xs : List ℕ) → recordsOf c m w xs ≡ recordsOf c m′ w xs
   unfolding recordsOf
   records-same w [] = refl
   records-same w (x ∷ xs) =
-      rw (record-same (w .banks) (w .session .settings) (eventOf (w .session) x), records-same (worldAfter m w x) xs, one-same w x)
+      rw (record-same (w .banks) (w .session .settings) (eventOf c (w .session) x), records-same (worldAfter c m w x) xs, one-same w x)
+
+-- the top is tested by the count
+top-same : (c : Chip) (m m′ : List ℕ) → SameRegisters m m′ → topFits c m ≡ topFits c m′
+top-same Newer m m′ s = refl
+top-same (Older part top) m m′ s = rw (s .same-count)
 
 pub same-map : SameMap
 unfolding openOf openNumber readOf readNumber
-same-map m m′ s n = record {
-  opened = λ b. rw (n, opened-same m m′ s, s .same-count);
-  read = λ w xs records. rw (n, s .same-count, run-same m m′ s w xs, records-same m m′ s w xs);
+same-map c m m′ s n = record {
+  opened = λ b. rw (n, top-same c m m′ s, opened-same c m m′ s, s .same-count);
+  read = λ w xs records. rw (n, top-same c m m′ s, s .same-count, run-same c m m′ s w xs, records-same c m m′ s w xs);
 }
 
 pub converted-alike : ConvertedAlike
 converted-alike version wished m room bytes z =
     let made = converted-maps version wished m room bytes z in
-    same-map m _ (made .same-registers) (accepted version m room z .good ∙ sym (made .good))
+    same-map Newer m _ (made .same-registers) (accepted version m room z .good ∙ sym (made .good))

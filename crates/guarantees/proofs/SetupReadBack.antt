@@ -13,8 +13,10 @@ use Rattle.bits.specs.Bits.{bitAt}
 use Rattle.bits.specs.Buffer.{filled}
 use Rattle.bits.specs.Bytes.{wordAt}
 use Rattle.bits.proofs.Cases.{and-left, and-right, or-left, or-right}
+use Rattle.chip.specs.declared.Chip.{Chip}
+use Rattle.chip.specs.declared.Chip.the-variants.{Newer}
 use Rattle.settings.specs.declared.Settings.{Settings}
-use Rattle.settings.specs.Settings.{settingsAfter}
+use Rattle.settings.specs.Settings.{newerAfter}
 use Rattle.session.specs.Step.{stepOf}
 use Rattle.session.specs.Event.{eventOf}
 use Rattle.run.specs.Reading.{World, worldAfter, runOf, recordsOf, recordCount}
@@ -28,7 +30,7 @@ use Rattle.setup.specs.Form.{firstListed, afterFirst, withSettings, listedOf}
 use Rattle.setup.specs.Calls.{mostOrders, ordersOf, firstBad}
 use Rattle.setup.proofs.Numbers.{none-bad, passed}
 use Rattle.guarantees.specs.AtRest.{AtRest, Accepted}
-use Rattle.guarantees.specs.Book.{clearOfConfiguration}
+use Rattle.guarantees.specs.Book.{clearOfSettings}
 use Rattle.guarantees.specs.ReadBack.{settingsLeft}
 use Rattle.guarantees.specs.SetupReadBack.{worldPast, worldLeft, setupRecords, setupBytes, configuresLast, anyOrder, SetupReadBack}
 use Rattle.guarantees.proofs.Calls.{run-append}
@@ -37,38 +39,38 @@ use Rattle.guarantees.proofs.ReadBack.{session-end, banks-end, count-en
 
 -- ---- samples joined
 
-records-append : (m : List ℕ) (w : World) (xs ys : List ℕ) → recordsOf m w (xs ++ ys) ≡ recordsOf m w xs ++ recordsOf m (runOf m w xs) ys
+records-append : (c : Chip) (m : List ℕ) (w : World) (xs ys : List ℕ) → recordsOf c m w (xs ++ ys) ≡ recordsOf c m w xs ++ recordsOf c m (runOf c m w xs) ys
 unfolding recordsOf runOf
-records-append m w [] ys = refl
-records-append m w (x ∷ xs) ys =
-    rw (records-append m (worldAfter m w x) xs ys)
-    (sym (append-assoc (recordOf m (w .banks) (w .session .settings) (eventOf (w .session) x)) (recordsOf m (worldAfter m w x) xs) _))
+records-append c m w [] ys = refl
+records-append c m w (x ∷ xs) ys =
+    rw (records-append c m (worldAfter c m w x) xs ys)
+    (sym (append-assoc (recordOf c m (w .banks) (w .session .settings) (eventOf c (w .session) x)) (recordsOf c m (worldAfter c m w x) xs) _))
 
-count-append : (m : List ℕ) (w : World) (xs ys : List ℕ)
-    → recordCount (w .session) (xs ++ ys) ≡ recordCount (w .session) xs + recordCount (runOf m w xs .session) ys
+count-append : (c : Chip) (m : List ℕ) (w : World) (xs ys : List ℕ)
+    → recordCount c (w .session) (xs ++ ys) ≡ recordCount c (w .session) xs + recordCount c (runOf c m w xs .session) ys
 unfolding recordCount runOf
-count-append m w [] ys = sym (zero-add _)
-count-append m w (x ∷ xs) ys =
-    rw (count-append m (worldAfter m w x) xs ys)
-    (sym (add-assoc (recordsIn (eventOf (w .session) x)) (recordCount (stepOf (w .session) x) xs) _))
+count-append c m w [] ys = sym (zero-add _)
+count-append c m w (x ∷ xs) ys =
+    rw (count-append c m (worldAfter c m w x) xs ys)
+    (sym (add-assoc (recordsIn (eventOf c (w .session) x)) (recordCount c (stepOf c (w .session) x) xs) _))
 
 -- ---- a read, or a write clear of 0x0000 and 0x0001, leaves the settings as they were
 
-clear-settings : (t : Settings) (ps : List RunByte) → clearOfConfiguration ps ≡ true → settingsLeft false t ps ≡ t
-unfolding settingsLeft clearOfConfiguration settingsAfter
+clear-settings : (t : Settings) (ps : List RunByte) → clearOfSettings Newer ps ≡ true → settingsLeft Newer false t ps ≡ t
+unfolding settingsLeft clearOfSettings newerAfter
 clear-settings t [] h = refl
 clear-settings t (p ∷ ps) h =
-    let c = not-true (isConfiguration p) (and-left (not (isConfiguration p)) (clearOfConfiguration ps) h) in
+    let c = not-true (isConfiguration p) (and-left (not (isConfiguration p)) (clearOfSettings Newer ps) h) in
     let a : eqb (p .address) 0x0000 ≡ false = or-left (eqb (p .address) 0x0000) (eqb (p .address) 0x0001) c in
     let b : eqb (p .address) 0x0001 ≡ false = or-right (eqb (p .address) 0x0000) (eqb (p .address) 0x0001) c in
-    rw (a, b) (clear-settings t ps (and-right (not (isConfiguration p)) (clearOfConfiguration ps) h))
+    rw (a, b) (clear-settings t ps (and-right (not (isConfiguration p)) (clearOfSettings Newer ps) h))
 
-read-settings : (t : Settings) (ps : List RunByte) → settingsLeft true t ps ≡ t
+read-settings : (t : Settings) (ps : List RunByte) → settingsLeft Newer true t ps ≡ t
 unfolding settingsLeft
 read-settings t [] = refl
 read-settings t (p ∷ ps) = read-settings t ps
 
-settings-kept : (read : Bool) (t : Settings) (ps : List RunByte) → (read || clearOfConfiguration ps) ≡ true → settingsLeft read t ps ≡ t
+settings-kept : (read : Bool) (t : Settings) (ps : List RunByte) → (read || clearOfSettings Newer ps) ≡ true → settingsLeft Newer read t ps ≡ t
 settings-kept true t ps h = read-settings t ps
 settings-kept false t ps h = clear-settings t ps h
 
@@ -86,7 +88,7 @@ bytes-take (suc n) (x ∷ xs) h = rw (and-left (ltb x 256) (areBytes xs) h) (byt
 
 AllAccepted : ℕ → List Order → Type 0
 AllAccepted settings [] = Unit {0}
-AllAccepted settings (o ∷ os) = (o .settings ≡ settings) × Accepted o (length (samplesOf o)) × AllAccepted settings os
+AllAccepted settings (o ∷ os) = (o .settings ≡ settings) × Accepted Newer o (length (samplesOf Newer o)) × AllAccepted settings os
 
 all-accepted : (settings k : ℕ) (l : List ℕ) → areBytes l ≡ true → firstBad (map (withSettings settings) (listedOf k l)) ≡ 0
     → AllAccepted settings (map (withSettings settings) (listedOf k l))
@@ -105,60 +107,64 @@ all-accepted settings (suc k) l b z = go (eqb (length l) 0) z (all-accepted sett
 -- ---- one order after the other
 
 -- of an order, to be at rest looks at its settings alone
-same-rest : (m : List ℕ) (w : World) (o p : Order) → p .settings ≡ o .settings → AtRest m w o → AtRest m w p
+same-rest : (m : List ℕ) (w : World) (o p : Order) → p .settings ≡ o .settings → AtRest Newer m w o → AtRest Newer m w p
 same-rest m w o p e r = record {
   good-map = r .good-map;
+  top = r .top;
   sound = r .sound;
   at-rest = r .at-rest;
+  deselected = r .deselected;
   bank-sizes = r .bank-sizes;
   same-lsb = ap (λ (t : ℕ). bitAt t 0) e ∙ r .same-lsb;
-  same-ascending = ap (λ (t : ℕ). bitAt t 1) e ∙ r .same-ascending;
+  same-direction = ap (λ (t : ℕ). bitAt t 1) e ∙ r .same-direction;
   same-single = ap (λ (t : ℕ). bitAt t 2) e ∙ r .same-single;
 }
 
-module _ (m : List ℕ) (w : World) (o : Order) (room : ℕ) (rest : AtRest m w o) (accepted : Accepted o room) where
-  past : runOf m w (samplesOf o) ≡ worldPast m w o
-  past = λ i. record { session = session-end m w o room rest accepted i; banks = banks-end m w o room rest accepted i }
+module _ (m : List ℕ) (w : World) (o : Order) (room : ℕ) (rest : AtRest Newer m w o) (accepted : Accepted Newer o room) where
+  past : runOf Newer m w (samplesOf Newer o) ≡ worldPast m w o
+  past = λ i. record { session = session-end Newer m w o room rest accepted i; banks = banks-end Newer m w o room rest accepted i }
 
-  rests-again : settingsLeft (isRead o) (w .session .settings) (runBytes o) ≡ w .session .settings → AtRest m (worldPast m w o) o
+  rests-again : settingsLeft Newer (isRead o) (w .session .settings) (runBytes Newer o) ≡ w .session .settings → AtRest Newer m (worldPast m w o) o
   rests-again e =
-      let s = rw past at (run-sound m w (samplesOf o) (rest-sound m w o rest)) in
+      let s = rw past at (run-sound Newer m w (samplesOf Newer o) (rest-sound Newer m w o rest)) in
       record {
         good-map = rest .good-map;
+        top = rest .top;
         sound = s .session-sound;
         at-rest = refl;
+        deselected = refl;
         bank-sizes = mapped-fits m (worldPast m w o .banks) (s .mapped);
         same-lsb = rest .same-lsb ∙ ap (λ (t : Settings). t .lsb) (sym e);
-        same-ascending = rest .same-ascending ∙ ap (λ (t : Settings). t .ascending) (sym e);
+        same-direction = rest .same-direction ∙ ap (λ (t : Settings). t .ascending) (sym e);
         same-single = rest .same-single ∙ ap (λ (t : Settings). t .single) (sym e);
       }
 
 -- what reading all the samples leaves
 record Left (m : List ℕ) (w : World) (os : List Order) : Type 0 where
-  world : runOf m w (allSamples os) ≡ worldLeft m w os
-  records : recordsOf m w (allSamples os) ≡ setupRecords m w os
-  count : recordCount (w .session) (allSamples os) ≡ setupBytes os
-  good : samplesGood (allSamples os) ≡ true
+  world : runOf Newer m w (allSamples Newer os) ≡ worldLeft m w os
+  records : recordsOf Newer m w (allSamples Newer os) ≡ setupRecords m w os
+  count : recordCount Newer (w .session) (allSamples Newer os) ≡ setupBytes os
+  good : samplesGood (allSamples Newer os) ≡ true
 
 left-none : (m : List ℕ) (w : World) → Left m w []
 unfolding allSamples worldLeft setupRecords setupBytes runOf recordsOf recordCount samplesGood
 left-none m w = record { world = refl; records = refl; count = refl; good = refl }
 
 left-more :
-    (m : List ℕ) (w : World) (o : Order) (os : List Order) (room : ℕ) → AtRest m w o → Accepted o room
+    (m : List ℕ) (w : World) (o : Order) (os : List Order) (room : ℕ) → AtRest Newer m w o → Accepted Newer o room
     → Left m (worldPast m w o) os → Left m w (o ∷ os)
 unfolding allSamples worldLeft setupRecords setupBytes
 left-more m w o os room rest accepted l =
     let p = past m w o room rest accepted in
     record {
-      world = run-append m w (samplesOf o) (allSamples os) ∙ rw p (l .world);
-      records = records-append m w (samplesOf o) (allSamples os) ∙ rw (p, records-end m w o room rest accepted, l .records);
-      count = count-append m w (samplesOf o) (allSamples os) ∙ rw (p, count-end m w o room rest accepted, l .count);
-      good = good-append (samplesOf o) (allSamples os) ∙ rw (good-samples o, l .good);
+      world = run-append Newer m w (samplesOf Newer o) (allSamples Newer os) ∙ rw p (l .world);
+      records = records-append Newer m w (samplesOf Newer o) (allSamples Newer os) ∙ rw (p, records-end Newer m w o room rest accepted, l .records);
+      count = count-append Newer m w (samplesOf Newer o) (allSamples Newer os) ∙ rw (p, count-end Newer m w o room rest accepted, l .count);
+      good = good-append (samplesOf Newer o) (allSamples Newer os) ∙ rw (good-samples Newer o, l .good);
     }
 
 left-all :
-    (m : List ℕ) (w : World) (settings : ℕ) (os : List Order) → AtRest m w (anyOrder settings) → AllAccepted settings os → configuresLast os ≡ true
+    (m : List ℕ) (w : World) (settings : ℕ) (os : List Order) → AtRest Newer m w (anyOrder settings) → AllAccepted settings os → configuresLast os ≡ true
     → Left m w os
 unfolding AllAccepted configuresLast
 left-all m w settings [] rest a h = left-none m w
@@ -166,17 +172,17 @@ left-all m w settings (o ∷ []) rest a h =
     left-more m w o [] _ (same-rest m w (anyOrder settings) o (a .0) rest) (a .1) (left-none m (worldPast m w o))
 left-all m w settings (o ∷ p ∷ os) rest a h =
     let r = same-rest m w (anyOrder settings) o (a .0) rest in
-    let kept = settings-kept (isRead o) (w .session .settings) (runBytes o) (and-left (isRead o || clearOfConfiguration (runBytes o)) (configuresLast (p ∷ os)) h) in
+    let kept = settings-kept (isRead o) (w .session .settings) (runBytes Newer o) (and-left (isRead o || clearOfSettings Newer (runBytes Newer o)) (configuresLast (p ∷ os)) h) in
     let again = same-rest m (worldPast m w o) o (anyOrder settings) (sym (a .0)) (rests-again m w o _ r (a .1) kept) in
     left-more m w o (p ∷ os) _ r (a .1)
-    (left-all m (worldPast m w o) settings (p ∷ os) again (a .2) (and-right (isRead o || clearOfConfiguration (runBytes o)) (configuresLast (p ∷ os)) h))
+    (left-all m (worldPast m w o) settings (p ∷ os) again (a .2) (and-right (isRead o || clearOfSettings Newer (runBytes Newer o)) (configuresLast (p ∷ os)) h))
 
 pub setup-read-back : SetupReadBack
 unfolding readOf ordersOf
 setup-read-back m settings list room w records rest bytes z h enough =
     let p = passed settings list room z in
     let l = left-all m w settings (ordersOf settings list) rest (all-accepted settings mostOrders list bytes (p .fine)) h in
-    let n : readNumber m w (allSamples (ordersOf settings list)) (length records) ≡ 0 =
-    no-refusal m w (allSamples (ordersOf settings list)) (length records) (rest .good-map) (rest-sound m w (anyOrder settings) rest) (l .good)
+    let n : readNumber Newer m w (allSamples Newer (ordersOf settings list)) (length records) ≡ 0 =
+    no-refusal Newer m w (allSamples Newer (ordersOf settings list)) (length records) (rest .good-map) (rest .top) (rest-sound Newer m w (anyOrder settings) rest) (l .good)
     (p .few) (omega (arith, l .count)) in
     rw n (λ i. outcome 0 (l .world i) (l .count i) (filled (l .records i) records))

@@ -4,28 +4,38 @@ use mathlib.Core.Path.{_≡_}
 use mathlib.Core.Bool.{true}
 use mathlib.Core.List.{List}
 use lib.Pow.{areBytes}
-use Rattle.maptest.specs.MapTest.{mapNumber}
+use Rattle.chip.specs.declared.Chip.{Chip}
+use Rattle.maptest.specs.MapTest.{mapNumber, topFits}
 use Rattle.settings.specs.declared.Settings.{Settings}
+use Rattle.settings.specs.declared.InUse.{InUse}
+use Rattle.settings.specs.Settings.{inUseOf, counting}
 use Rattle.session.specs.declared.Phase.the-variants.{Rest}
 use Rattle.session.specs.declared.Session.{Session}
 use Rattle.session.specs.State.{soundSession}
 use Rattle.run.specs.Reading.{World}
 use Rattle.refusals.specs.Numbers.{banksFit}
-use Rattle.order.specs.Order.{Order, lsbFirst, ascending, singleInstruction}
+use Rattle.order.specs.Order.{Order, lsbFirst, goesUp, isSingle}
 use Rattle.order.specs.Number.{sendNumber}
 
+-- the settings of a session that count on a chip
+abbrev pub countingOf : Chip → World → InUse
+countingOf c w = counting c (inUseOf (w .session .settings))
+
 -- Document 01, "Registers and session": a session at rest is sound and comes with a good map and banks of n bytes; the same
--- settings means that those an order can name agree with it, the others being at will.
-pub record AtRest (m : List ℕ) (w : World) (o : Order) : Type 0 where
-  pub good-map : mapNumber m ≡ 0
-  pub sound : soundSession (w .session) ≡ true
+-- settings means that those an order can name agree with it, the others being at will. Document 02, Ask 1: for an older chip the top is
+-- n less 1; its orders name the bit order alone, and that is then the direction. A run that stalls, or is passed over, is not at rest.
+pub record AtRest (c : Chip) (m : List ℕ) (w : World) (o : Order) : Type 0 where
+  pub good-map : mapNumber c m ≡ 0
+  pub top : topFits c m ≡ true
+  pub sound : soundSession c (w .session) ≡ true
   pub at-rest : w .session .phase ≡ Rest
+  pub deselected : w .session .csb ≡ true
   pub bank-sizes : banksFit m (w .banks) ≡ true
   pub same-lsb : lsbFirst o ≡ w .session .settings .lsb
-  pub same-ascending : ascending o ≡ w .session .settings .ascending
-  pub same-single : singleInstruction o ≡ w .session .settings .single
+  pub same-direction : goesUp c o ≡ countingOf c w .ascending
+  pub same-single : isSingle c o ≡ countingOf c w .single
 
--- An order that the sender takes, by its own number, with some room. Its data are bytes.
-pub record Accepted (o : Order) (room : ℕ) : Type 0 where
-  pub number : sendNumber o room ≡ 0
+-- An order that the sender takes for the chip, by its own number, with some room. Its data are bytes.
+pub record Accepted (c : Chip) (o : Order) (room : ℕ) : Type 0 where
+  pub number : sendNumber c o room ≡ 0
   pub data-bytes : areBytes (o .bytes) ≡ true

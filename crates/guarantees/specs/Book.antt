@@ -1,31 +1,39 @@
 -- Document 01, "The sender" and "The stopped run": which bytes of a run are whole after s samples, and the book.
 use Prim.Native.Nat.{ℕ, _+_, _-_, _*_, _/_, min}
-use mathlib.Core.Bool.{Bool, true, cond, not, _&&_}
+use mathlib.Core.Bool.{Bool, true, cond, not, _&&_, _||_}
 use mathlib.Core.List.{List, [], _∷_}
 use lib.ListN.{length, take}
+use lib.Dec.{eqb}
+use Rattle.chip.specs.declared.Chip.{Chip}
+use Rattle.chip.specs.declared.Chip.the-variants.{Newer, Older}
 use Rattle.registers.specs.Banks.{Banks}
 use Rattle.writing.specs.Write.{writeBanks}
-use Rattle.order.specs.Order.{Order, RunByte, singleInstruction, runBytes}
+use Rattle.order.specs.Order.{Order, RunByte, isSingle, runBytes}
 use Rattle.order.specs.Number.{isConfiguration}
 
 -- Byte i (from 1) is whole once 33 + 16i samples have been sent, or 48i + 1 with single instruction.
-abbrev pub wholeAfter : Order → ℕ → ℕ
-wholeAfter o i = cond (singleInstruction o) (48 * i + 1) (33 + 16 * i)
+abbrev pub wholeAfter : Chip → Order → ℕ → ℕ
+wholeAfter c o i = cond (isSingle c o) (48 * i + 1) (33 + 16 * i)
 
 -- w: how many of the bytes are whole after s samples, by that formula
-unfoldable pub wholeBytes : Order → ℕ → ℕ
-wholeBytes o s = min (length (runBytes o)) (cond (singleInstruction o) ((s - 1) / 48) ((s - 33) / 16))
+unfoldable pub wholeBytes : Chip → Order → ℕ → ℕ
+wholeBytes c o s = min (length (runBytes c o)) (cond (isSingle c o) ((s - 1) / 48) ((s - 33) / 16))
 
 -- the writing rule, for each byte in order
-unfoldable pub writeAll : List ℕ → List RunByte → Banks → Banks
-writeAll m [] b = b
-writeAll m (p ∷ ps) b = writeAll m ps (writeBanks m b (p .address) (p .byte))
+unfoldable pub writeAll : Chip → List ℕ → List RunByte → Banks → Banks
+writeAll c m [] b = b
+writeAll c m (p ∷ ps) b = writeAll c m ps (writeBanks c m b (p .address) (p .byte))
 
 -- The book: for i = 1 to w it does the write of vi to ai. A broken byte makes no step.
-unfoldable pub bookOf : List ℕ → Order → ℕ → Banks → Banks
-bookOf m o s b = writeAll m (take (wholeBytes o s) (runBytes o)) b
+unfoldable pub bookOf : Chip → List ℕ → Order → ℕ → Banks → Banks
+bookOf c m o s b = writeAll c m (take (wholeBytes c o s) (runBytes c o)) b
 
--- the run is clear of 0x0000 and 0x0001
-unfoldable pub clearOfConfiguration : List RunByte → Bool
-clearOfConfiguration [] = true
-clearOfConfiguration (p ∷ ps) = not (isConfiguration p) && clearOfConfiguration ps
+-- 0x0000 or 0x0001 of a newer chip; document 02, Ask 1: 0x0000 or 0x0004 of an older one
+abbrev pub setsAnything : Chip → RunByte → Bool
+setsAnything Newer p = isConfiguration p
+setsAnything (Older part top) p = eqb (p .address) 0x0000 || eqb (p .address) 0x0004
+
+-- the run is clear of these
+unfoldable pub clearOfSettings : Chip → List RunByte → Bool
+clearOfSettings c [] = true
+clearOfSettings c (p ∷ ps) = not (setsAnything c p) && clearOfSettings c ps

@@ -5,6 +5,7 @@ use mathlib.Core.Bool.{Bool, true, false}
 use mathlib.Core.List.{List, [], _∷_, _++_}
 use lib.ListN.{length, replicate, getD}
 use Rattle.bits.specs.Bits.{merged}
+use Rattle.chip.specs.declared.Chip.the-variants.{Newer}
 use Rattle.regmap.specs.Format.{lengthOf, versionOf, countOf}
 use Rattle.maptest.specs.MapTest.{mapNumber}
 use Rattle.settings.specs.Settings.{nextAddress}
@@ -53,15 +54,15 @@ opened m = record { session = openedSession; banks = defaultBanks m }
 
 -- the records of some samples after opening
 abbrev pub recordsAfterOpening : List ℕ → List ℕ → List ℕ
-recordsAfterOpening m xs = recordsOf m (opened m) xs
+recordsAfterOpening m xs = recordsOf Newer m (opened m) xs
 
 -- the second map after opening and the samples of some orders, one after another
 abbrev pub after : List Order → World
-after orders = runOf map17 (opened map17) (allSamples orders)
+after orders = runOf Newer map17 (opened map17) (allSamples Newer orders)
 
 -- the byte that 0x0010 is then due to answer
 abbrev pub due10 : World → ℕ
-due10 w = dueByte map17 (w .banks) (w .session .settings) 0x0010
+due10 w = dueByte Newer map17 (w .banks) (w .session .settings) 0x0010
 
 abbrev pub bitsOfDigits : List ℕ → List Bool
 bitsOfDigits [] = []
@@ -70,15 +71,15 @@ bitsOfDigits (suc d ∷ ds) = true ∷ bitsOfDigits ds
 
 -- There is a good map of n registers in a version, and every one states this length and has so many bytes.
 pub record GoodMaps (example : List ℕ) (version n stated bytes : ℕ) : Type 0 where
-  pub good : mapNumber example ≡ 0
+  pub good : mapNumber Newer example ≡ 0
   pub in-version : versionOf example ≡ version
   pub registers : countOf example ≡ n
-  pub lengths : (m : List ℕ) → mapNumber m ≡ 0 → versionOf m ≡ version → countOf m ≡ n → (lengthOf m ≡ stated) × (length m ≡ bytes)
+  pub lengths : (m : List ℕ) → mapNumber Newer m ≡ 0 → versionOf m ≡ version → countOf m ≡ n → (lengthOf m ≡ stated) × (length m ≡ bytes)
 
 -- The sender takes the order with room for so many samples, and the order has just as many.
 pub record Sends (o : Order) (samples : ℕ) : Type 0 where
-  pub taken : sendNumber o samples ≡ 0
-  pub given : length (samplesOf o) ≡ samples
+  pub taken : sendNumber Newer o samples ≡ 0
+  pub given : length (samplesOf Newer o) ≡ samples
 
 pub record KnownResults : Type 0 where
   -- n = 16: length 0x0033, 53 bytes; n = 8,192: length 0x6003
@@ -86,25 +87,25 @@ pub record KnownResults : Type 0 where
   pub maps-8192 : GoodMaps map8192 1 8192 0x6003 24581
   -- document 02, Ask 3: in version 2 length 0x0034, 54 bytes
   pub maps-16-flags : GoodMaps map16Flags 2 16 0x0034 54
-  pub good-17 : (mapNumber map17 ≡ 0) × (countOf map17 ≡ 17)
+  pub good-17 : (mapNumber Newer map17 ≡ 0) × (countOf map17 ≡ 17)
   -- byte 0xA5, mask 0x0F, write 0x3C: 0xAC
   pub merge : merged 8 0xA5 0x3C 0x0F ≡ 0xAC
   -- 0x000A after opening, write 0x35, and the same with LSB first
-  pub bits-high : orderBits (writeOne 0 0x000A 0x35)
+  pub bits-high : orderBits Newer (writeOne 0 0x000A 0x35)
       ≡ bitsOfDigits (0 ∷ 0 ∷ 0 ∷ 0 ∷ 0 ∷ 0 ∷ 0 ∷ 0 ∷ 0 ∷ 0 ∷ 0 ∷ 0 ∷ 1 ∷ 0 ∷ 1 ∷ 0 ∷ 0 ∷ 0 ∷ 1 ∷ 1 ∷ 0 ∷ 1 ∷ 0 ∷ 1 ∷ [])
-  pub bits-low : orderBits (writeOne 1 0x000A 0x35)
+  pub bits-low : orderBits Newer (writeOne 1 0x000A 0x35)
       ≡ bitsOfDigits (0 ∷ 1 ∷ 0 ∷ 1 ∷ 0 ∷ 0 ∷ 0 ∷ 0 ∷ 0 ∷ 0 ∷ 0 ∷ 0 ∷ 0 ∷ 0 ∷ 0 ∷ 0 ∷ 1 ∷ 0 ∷ 1 ∷ 0 ∷ 1 ∷ 1 ∷ 0 ∷ 0 ∷ [])
   -- the write of 0x3C to 0x000A, stopped after 47, 31, 33 and 49 of its 51 samples; document 02, Ask 8, gives each record its last byte
-  pub samples-51 : length (samplesOf (writeOne 0 0x000A 0x3C)) ≡ 51
-  pub stopped-47 : recordsAfterOpening map16 (stoppedSamples (writeOne 0 0x000A 0x3C) 47 0x01) ≡ 3 ∷ 0x00 ∷ 0x0A ∷ 0x07 ∷ 0x01 ∷ 0 ∷ 0x00 ∷ []
-  pub stopped-31 : recordsAfterOpening map16 (stoppedSamples (writeOne 0 0x000A 0x3C) 31 0x01) ≡ 3 ∷ 0x00 ∷ 0x00 ∷ 0x0F ∷ 0x00 ∷ 0 ∷ 0x00 ∷ []
-  pub stopped-33 : recordsAfterOpening map16 (stoppedSamples (writeOne 0 0x000A 0x3C) 33 0x01) ≡ []
-  pub stopped-49 : recordsAfterOpening map16 (stoppedSamples (writeOne 0 0x000A 0x3C) 49 0x01) ≡ 1 ∷ 0x00 ∷ 0x0A ∷ 0x3C ∷ 0x3C ∷ 1 ∷ 0x3C ∷ []
+  pub samples-51 : length (samplesOf Newer (writeOne 0 0x000A 0x3C)) ≡ 51
+  pub stopped-47 : recordsAfterOpening map16 (stoppedSamples Newer (writeOne 0 0x000A 0x3C) 47 0x01) ≡ 3 ∷ 0x00 ∷ 0x0A ∷ 0x07 ∷ 0x01 ∷ 0 ∷ 0x00 ∷ []
+  pub stopped-31 : recordsAfterOpening map16 (stoppedSamples Newer (writeOne 0 0x000A 0x3C) 31 0x01) ≡ 3 ∷ 0x00 ∷ 0x00 ∷ 0x0F ∷ 0x00 ∷ 0 ∷ 0x00 ∷ []
+  pub stopped-33 : recordsAfterOpening map16 (stoppedSamples Newer (writeOne 0 0x000A 0x3C) 33 0x01) ≡ []
+  pub stopped-49 : recordsAfterOpening map16 (stoppedSamples Newer (writeOne 0 0x000A 0x3C) 49 0x01) ≡ 1 ∷ 0x00 ∷ 0x0A ∷ 0x3C ∷ 0x3C ∷ 1 ∷ 0x3C ∷ []
   -- 0x40 to 0x0000, which is not its own mirror (document 02, Ask 2), and 0x81, which is
-  pub control-40 : recordsAfterOpening map16 (samplesOf (writeOne 0 0x0000 0x40)) ≡ 1 ∷ 0x00 ∷ 0x00 ∷ 0x40 ∷ 0x00 ∷ 0 ∷ 0x00 ∷ []
-  pub control-81 : recordsAfterOpening map16 (samplesOf (writeOne 0 0x0000 0x81)) ≡ 1 ∷ 0x00 ∷ 0x00 ∷ 0x81 ∷ 0x00 ∷ 5 ∷ 0x00 ∷ []
+  pub control-40 : recordsAfterOpening map16 (samplesOf Newer (writeOne 0 0x0000 0x40)) ≡ 1 ∷ 0x00 ∷ 0x00 ∷ 0x40 ∷ 0x00 ∷ 0 ∷ 0x00 ∷ []
+  pub control-81 : recordsAfterOpening map16 (samplesOf Newer (writeOne 0 0x0000 0x81)) ≡ 1 ∷ 0x00 ∷ 0x00 ∷ 0x81 ∷ 0x00 ∷ 5 ∷ 0x00 ∷ []
   -- document 02, Ask 9: 0xB0 to 0x0001 shows the byte as given, and reads without bit 4
-  pub control-b0 : recordsAfterOpening map16 (samplesOf (writeOne 0 0x0001 0xB0)) ≡ 1 ∷ 0x00 ∷ 0x01 ∷ 0xB0 ∷ 0xA0 ∷ 3 ∷ 0x00 ∷ []
+  pub control-b0 : recordsAfterOpening map16 (samplesOf Newer (writeOne 0 0x0001 0xB0)) ≡ 1 ∷ 0x00 ∷ 0x01 ∷ 0xB0 ∷ 0xA0 ∷ 3 ∷ 0x00 ∷ []
   -- descending from 0x0000, ascending from 0x7FFF
   pub wrap-down : nextAddress false 0x0000 ≡ 0x7FFF
   pub wrap-up : nextAddress true 0x7FFF ≡ 0x0000

@@ -4,6 +4,7 @@ pub mod Calls
 pub mod Counts
 pub mod InForce
 pub mod Known
+pub mod KnownOlder
 pub mod ReadBack
 pub mod SameMap
 pub mod SetupReadBack

@@ -6,6 +6,7 @@ use mathlib.Core.List.{List, [], _∷_, _++_}
 use lib.ListN.{length}
 use Rattle.bits.specs.Buffer.{filled}
 use Rattle.sizes.specs.Sizes.{recordSize}
+use Rattle.chip.specs.declared.Chip.{Chip}
 use Rattle.settings.specs.declared.Settings.{Settings}
 use Rattle.settings.specs.Settings.{settingsAfter}
 use Rattle.session.specs.declared.Event.the-variants.{Whole}
@@ -20,43 +21,43 @@ use Rattle.order.specs.Samples.{samplesOf}
 use Rattle.guarantees.specs.AtRest.{AtRest, Accepted}
 
 -- the settings after a whole byte of a run: a read changes none
-abbrev pub settingsPast : Bool → Settings → RunByte → Settings
-settingsPast read t p = cond read t (settingsAfter t (p .address) (p .byte))
+abbrev pub settingsPast : Chip → Bool → Settings → RunByte → Settings
+settingsPast c read t p = cond read t (settingsAfter c t (p .address) (p .byte))
 
 -- the settings that the bytes of a run leave
-unfoldable pub settingsLeft : Bool → Settings → List RunByte → Settings
-settingsLeft read t [] = t
-settingsLeft read t (p ∷ ps) = settingsLeft read (settingsPast read t p) ps
+unfoldable pub settingsLeft : Chip → Bool → Settings → List RunByte → Settings
+settingsLeft c read t [] = t
+settingsLeft c read t (p ∷ ps) = settingsLeft c read (settingsPast c read t p) ps
 
 -- the banks that they leave
-unfoldable pub banksLeft : List ℕ → Bool → Banks → List RunByte → Banks
-banksLeft m read b [] = b
-banksLeft m read b (p ∷ ps) = banksLeft m read (banksAfter m b (Whole read (p .address) (p .byte))) ps
+unfoldable pub banksLeft : Chip → List ℕ → Bool → Banks → List RunByte → Banks
+banksLeft c m read b [] = b
+banksLeft c m read b (p ∷ ps) = banksLeft c m read (banksAfter c m b (Whole read (p .address) (p .byte))) ps
 
 -- their records: one for each byte in order, with its address and its value
-unfoldable pub recordsLeft : List ℕ → Bool → Banks → Settings → List RunByte → List ℕ
-recordsLeft m read b t [] = []
-recordsLeft m read b t (p ∷ ps) =
-    recordOf m b t (Whole read (p .address) (p .byte))
-    ++ recordsLeft m read (banksAfter m b (Whole read (p .address) (p .byte))) (settingsPast read t p) ps
+unfoldable pub recordsLeft : Chip → List ℕ → Bool → Banks → Settings → List RunByte → List ℕ
+recordsLeft c m read b t [] = []
+recordsLeft c m read b t (p ∷ ps) =
+    recordOf c m b t (Whole read (p .address) (p .byte))
+    ++ recordsLeft c m read (banksAfter c m b (Whole read (p .address) (p .byte))) (settingsPast c read t p) ps
 
 -- What reading a whole run leaves: as many records as the order counts, one for each of its bytes; the banks with these bytes;
 -- and the session at rest again, with the settings that the bytes leave. The line bytes of a read are the zeros that were sent.
-abbrev pub readBackOf : List ℕ → World → Order → List ℕ → Outcome
-readBackOf m w o records = record {
+abbrev pub readBackOf : Chip → List ℕ → World → Order → List ℕ → Outcome
+readBackOf c m w o records = record {
   number = 0;
   world = record {
-    session = resting false (settingsLeft (isRead o) (w .session .settings) (runBytes o));
-    banks = banksLeft m (isRead o) (w .banks) (runBytes o);
+    session = resting false (settingsLeft c (isRead o) (w .session .settings) (runBytes c o));
+    banks = banksLeft c m (isRead o) (w .banks) (runBytes c o);
   };
   count = o .count;
-  records = filled (recordsLeft m (isRead o) (w .banks) (w .session .settings) (runBytes o)) records;
+  records = filled (recordsLeft c m (isRead o) (w .banks) (w .session .settings) (runBytes c o)) records;
 }
 
--- For any good map, any accepted order, any session at rest with the same settings and banks of n bytes, and room for a record a
+-- For any chip, any good map, any accepted order, any session at rest with the same settings and banks of n bytes, and room for a record a
 -- byte: reading the sender's samples is done, and leaves just that.
 abbrev pub ReadBack : Type 0
 ReadBack =
-    (m : List ℕ) (o : Order) (room : ℕ) (w : World) (records : List ℕ)
-    → AtRest m w o → Accepted o room → recordSize * o .count ≤ length records
-    → readOf m w (samplesOf o) records ≡ readBackOf m w o records
+    (c : Chip) (m : List ℕ) (o : Order) (room : ℕ) (w : World) (records : List ℕ)
+    → AtRest c m w o → Accepted c o room → recordSize * o .count ≤ length records
+    → readOf c m w (samplesOf c o) records ≡ readBackOf c m w o records

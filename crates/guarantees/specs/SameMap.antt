@@ -8,21 +8,23 @@ use Rattle.regmap.specs.Format.{SameRegisters}
 use Rattle.maptest.specs.MapTest.{mapNumber}
 use Rattle.convert.specs.Convert.{convertedTo, convertNumber}
 use Rattle.convert.specs.Made.{Wished}
+use Rattle.chip.specs.declared.Chip.{Chip}
+use Rattle.chip.specs.declared.Chip.the-variants.{Newer}
 use Rattle.registers.specs.Banks.{Banks}
 use Rattle.run.specs.Reading.{World}
 use Rattle.reader.specs.Calls.{openOf, readOf}
 
 -- Every call leaves the same with either map: number, session, both banks and records.
-pub record ReadAlike (m m′ : List ℕ) : Type 0 where
-  pub opened : (b : Banks) → openOf m b ≡ openOf m′ b
-  pub read : (w : World) (samples records : List ℕ) → readOf m w samples records ≡ readOf m′ w samples records
+pub record ReadAlike (c : Chip) (m m′ : List ℕ) : Type 0 where
+  pub opened : (b : Banks) → openOf c m b ≡ openOf c m′ b
+  pub read : (w : World) (samples records : List ℕ) → readOf c m w samples records ≡ readOf c m′ w samples records
 
 -- Maps with the same registers, which the map test gives the same number, are read alike.
 abbrev pub SameMap : Type 0
-SameMap = (m m′ : List ℕ) → SameRegisters m m′ → mapNumber m ≡ mapNumber m′ → ReadAlike m m′
+SameMap = (c : Chip) (m m′ : List ℕ) → SameRegisters m m′ → mapNumber c m ≡ mapNumber c m′ → ReadAlike c m m′
 
--- So are a map and what the converter makes of it.
+-- So are a newer chip's map and what the converter makes of it.
 abbrev pub ConvertedAlike : Type 0
 ConvertedAlike =
     (version : ℕ) → Wished version → (m : List ℕ) (room : ℕ) → areBytes m ≡ true → convertNumber version m room ≡ 0
-    → ReadAlike m (convertedTo version m)
+    → ReadAlike Newer m (convertedTo version m)

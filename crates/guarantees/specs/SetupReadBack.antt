@@ -7,6 +7,7 @@ use lib.ListN.{length}
 use lib.Pow.{areBytes}
 use Rattle.bits.specs.Buffer.{filled}
 use Rattle.sizes.specs.Sizes.{recordSize}
+use Rattle.chip.specs.declared.Chip.the-variants.{Newer}
 use Rattle.session.specs.State.{resting}
 use Rattle.run.specs.Reading.{World}
 use Rattle.reader.specs.Calls.{Outcome, outcome, readOf}
@@ -14,14 +15,14 @@ use Rattle.order.specs.Order.{Order, order, isRead, runBytes}
 use Rattle.order.specs.Samples.{allSamples}
 use Rattle.setup.specs.Calls.{ordersOf, setupNumber}
 use Rattle.guarantees.specs.AtRest.{AtRest}
-use Rattle.guarantees.specs.Book.{clearOfConfiguration}
+use Rattle.guarantees.specs.Book.{clearOfSettings}
 use Rattle.guarantees.specs.ReadBack.{settingsLeft, banksLeft, recordsLeft}
 
 -- the session and the banks that one order leaves
 abbrev pub worldPast : List ℕ → World → Order → World
 worldPast m w o = record {
-  session = resting false (settingsLeft (isRead o) (w .session .settings) (runBytes o));
-  banks = banksLeft m (isRead o) (w .banks) (runBytes o);
+  session = resting false (settingsLeft Newer (isRead o) (w .session .settings) (runBytes Newer o));
+  banks = banksLeft Newer m (isRead o) (w .banks) (runBytes Newer o);
 }
 
 -- those that several orders leave, one after the other
@@ -32,7 +33,7 @@ worldLeft m w (o ∷ os) = worldLeft m (worldPast m w o) os
 -- their records: one for each byte of each order, in order
 unfoldable pub setupRecords : List ℕ → World → List Order → List ℕ
 setupRecords m w [] = []
-setupRecords m w (o ∷ os) = recordsLeft m (isRead o) (w .banks) (w .session .settings) (runBytes o) ++ setupRecords m (worldPast m w o) os
+setupRecords m w (o ∷ os) = recordsLeft Newer m (isRead o) (w .banks) (w .session .settings) (runBytes Newer o) ++ setupRecords m (worldPast m w o) os
 
 unfoldable pub setupBytes : List Order → ℕ
 setupBytes [] = 0
@@ -42,7 +43,7 @@ setupBytes (o ∷ os) = o .count + setupBytes os
 unfoldable pub configuresLast : List Order → Bool
 configuresLast [] = true
 configuresLast (o ∷ []) = true
-configuresLast (o ∷ p ∷ os) = (isRead o || clearOfConfiguration (runBytes o)) && configuresLast (p ∷ os)
+configuresLast (o ∷ p ∷ os) = (isRead o || clearOfSettings Newer (runBytes Newer o)) && configuresLast (p ∷ os)
 
 -- an order with these settings: to be at rest for a list looks at nothing else of it
 abbrev pub anyOrder : ℕ → Order
@@ -58,6 +59,6 @@ setupBackOf m w os records = outcome 0 (worldLeft m w os) (setupBytes os) (fille
 abbrev pub SetupReadBack : Type 0
 SetupReadBack =
     (m : List ℕ) (settings : ℕ) (list : List ℕ) (room : ℕ) (w : World) (records : List ℕ)
-    → AtRest m w (anyOrder settings) → areBytes list ≡ true → setupNumber settings list room ≡ 0
+    → AtRest Newer m w (anyOrder settings) → areBytes list ≡ true → setupNumber settings list room ≡ 0
     → configuresLast (ordersOf settings list) ≡ true → recordSize * setupBytes (ordersOf settings list) ≤ length records
-    → readOf m w (allSamples (ordersOf settings list)) records ≡ setupBackOf m w (ordersOf settings list) records
+    → readOf Newer m w (allSamples Newer (ordersOf settings list)) records ≡ setupBackOf m w (ordersOf settings list) records

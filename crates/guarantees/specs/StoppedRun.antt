@@ -1,35 +1,56 @@
 -- Demand 3, the stopped run: one claim about the whole list of calls.
 use Prim.Native.Nat.{ℕ, _<_}
 use mathlib.Core.Path.{_≡_}
-use mathlib.Core.Bool.{true, false}
+use mathlib.Core.Bool.{Bool, true, false}
 use mathlib.Core.List.{List, [], _∷_, _++_}
 use lib.ListN.{take}
+use Rattle.chip.specs.declared.Chip.{Chip}
+use Rattle.chip.specs.Chip.{isNewer}
+use Rattle.settings.specs.declared.Settings.{Settings}
+use Rattle.session.specs.declared.Phase.the-variants.{Data}
+use Rattle.session.specs.declared.Session.{Session}
+use Rattle.session.specs.State.{resting, mayStall}
 use Rattle.session.specs.Step.{csbOf}
 use Rattle.run.specs.Reading.{World}
 use Rattle.order.specs.Order.{Order, isRead, runBytes}
 use Rattle.order.specs.Samples.{samplesOf}
 use Rattle.guarantees.specs.AtRest.{AtRest, Accepted}
 use Rattle.guarantees.specs.Calls.{Call, afterCalls, joined}
-use Rattle.guarantees.specs.Book.{bookOf, clearOfConfiguration}
+use Rattle.guarantees.specs.Book.{bookOf, clearOfSettings}
 
--- A write run clear of 0x0000 and 0x0001 that the sender accepts, for a session at rest, and a sample that raises the select.
-pub record Run (m : List ℕ) (w : World) (o : Order) (room raise : ℕ) : Type 0 where
-  pub start : AtRest m w o
-  pub accepted : Accepted o room
+-- A write run clear of 0x0000 and 0x0001, or 0x0004 on an older chip, that the sender accepts, for a session at rest, and a sample that
+-- raises the select.
+pub record Run (c : Chip) (m : List ℕ) (w : World) (o : Order) (room raise : ℕ) : Type 0 where
+  pub start : AtRest c m w o
+  pub accepted : Accepted c o room
   pub write : isRead o ≡ false
-  pub clear : clearOfConfiguration (runBytes o) ≡ true
+  pub clear : clearOfSettings c (runBytes c o) ≡ true
   pub sample : raise < 16
   pub raised : csbOf raise ≡ true
 
 -- the samples to be read: the first s of the run, and the raise
-abbrev pub stoppedSamples : Order → ℕ → ℕ → List ℕ
-stoppedSamples o s raise = take s (samplesOf o) ++ (raise ∷ [])
+abbrev pub stoppedSamples : Chip → Order → ℕ → ℕ → List ℕ
+stoppedSamples c o s raise = take s (samplesOf c o) ++ (raise ∷ [])
 
 -- For any such run, stopped after any number s of its samples, and any list of calls whose done ones, joined, are those samples and
 -- the raise (refused calls anywhere): both stages at the end are the book's, byte for byte.
 abbrev pub StoppedRun : Type 0
 StoppedRun =
-    (m : List ℕ) (w : World) (o : Order) (room s raise : ℕ) (calls : List Call)
-    → Run m w o room raise
-    → joined m w calls ≡ stoppedSamples o s raise
-    → afterCalls m w calls .banks ≡ bookOf m o s (w .banks)
+    (c : Chip) (m : List ℕ) (w : World) (o : Order) (room s raise : ℕ) (calls : List Call)
+    → Run c m w o room raise
+    → joined c m w calls ≡ stoppedSamples c o s raise
+    → afterCalls c m w calls .banks ≡ bookOf c m o s (w .banks)
+
+-- Document 02, Ask 1: where a stop leaves a session. It is at rest; or, on an older chip and before a data byte of a counted run, it stalls:
+-- the select is high, and the next frame resumes the run.
+pub data Stops (c : Chip) : Session → Type 0 where
+  rests : (sclk : Bool) (t : Settings) → Stops c (resting sclk t)
+  stalls : (s : Session) → isNewer c ≡ false → s .csb ≡ true → s .phase ≡ Data → mayStall s ≡ true → Stops c s
+
+-- So the claim above is of both stages alone: an older chip's next order may find a run that is not over.
+abbrev pub StoppedSession : Type 0
+StoppedSession =
+    (c : Chip) (m : List ℕ) (w : World) (o : Order) (room s raise : ℕ) (calls : List Call)
+    → Run c m w o room raise
+    → joined c m w calls ≡ stoppedSamples c o s raise
+    → Stops c (afterCalls c m w calls .session)

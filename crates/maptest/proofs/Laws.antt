@@ -1,19 +1,23 @@
 -- Laws of the map test: what number 0 says of n, of each entry and of the control registers.
-use mathlib.Core.Path.{_≡_, refl, _∙_}
-use mathlib.Core.Bool.{Bool, true, false, _&&_, _||_}
+use mathlib.Core.Path.{_≡_, refl, sym, _∙_}
+use mathlib.Core.Bool.{Bool, true, false, _&&_, _||_, false≢true}
 use mathlib.Core.List.{List}
-use Prim.Native.Nat.{ℕ, zero, suc, _+_, _≤_, _<_}
+use Prim.Native.Nat.{ℕ, zero, suc, _+_, _-_, _≤_, _<_}
 use native.Mathlib.Nat.{zero-add}
 use native.Mathlib.Omega.{arith}
-use borrow.Author.Tests.{leb-true, eqb-true}
+use borrow.Author.Tests.{leb-true, eqb-true, eq-eqb, ne-eqb}
 use lib.ListN.{length}
-use lib.Dec.{eqb}
+use lib.Dec.{eqb, leb}
 use Rattle.bits.specs.Tests.{every, unless}
 use Rattle.bits.proofs.Cases.{each, and-left, and-right, every-true}
+use Rattle.chip.specs.declared.Chip.{Chip}
+use Rattle.chip.specs.declared.Chip.the-variants.{Newer, Older}
+use Rattle.chip.specs.declared.Part.{Part}
+use Rattle.chip.specs.Chip.{transferPlace, topGood}
 use Rattle.regmap.specs.Format.{lengthOf, versionOf, countOf, leastCount, mostCount, lengthSize, sizeOf, registerAt, SameRegisters, control}
-use Rattle.maptest.specs.MapTest.{formTests, Formed, kindRule, places, placeRule, entryGood, entriesGood, furtherTests, mapNumber}
+use Rattle.maptest.specs.MapTest.{formTests, Formed, kindRule, kindsOf, placeRule, entryGood, entriesGood, furtherTests, rulesGood, mapNumber, topFits}
+use Rattle.maptest.proofs.PlaceKinds.{controlPlace, placed-control}
 use Rattle.maptest.proofs.Entries.{entries-each}
-use Rattle.maptest.proofs.PlaceKinds.{placed-control}
 
 -- the tests of the form, each turned into its fact
 pub formed : (m : List ℕ) → every (formTests m) ≡ true → Formed m
@@ -30,19 +34,19 @@ both-pass true true h = (refl, refl)
 both-pass true false h = absurd (omega arith)
 both-pass false b h = absurd (omega arith)
 
--- the numbers of the map test
-pub map-number-most : (m : List ℕ) → mapNumber m ≤ 3
+-- the numbers of a map alone
+pub map-number-most : (c : Chip) (m : List ℕ) → mapNumber c m ≤ 3
 unfolding mapNumber
-map-number-most m =
+map-number-most c m =
     each (λ (n : ℕ). n ≤ 3) (every (formTests m))
-    (λ t. each (λ (n : ℕ). n ≤ 3) (entriesGood m 0 (countOf m) && every (furtherTests m)) (λ t. omega arith) (λ t. omega arith))
+    (λ t. each (λ (n : ℕ). n ≤ 3) (rulesGood c m) (λ t. omega arith) (λ t. omega arith))
     (λ t. omega arith)
 
-module _ (m : List ℕ) (good : mapNumber m ≡ 0) where
+module _ (c : Chip) (m : List ℕ) (good : mapNumber c m ≡ 0) where
   -- its form and its rules have passed
-  pub passed : (every (formTests m) ≡ true) × ((entriesGood m 0 (countOf m) && every (furtherTests m)) ≡ true)
+  pub passed : (every (formTests m) ≡ true) × (rulesGood c m ≡ true)
   unfolding mapNumber
-  passed = both-pass (every (formTests m)) (entriesGood m 0 (countOf m) && every (furtherTests m)) good
+  passed = both-pass (every (formTests m)) (rulesGood c m) good
 
   pub good-form : length m ≡ sizeOf m
   good-form = formed m (passed .0) .whole
@@ -57,44 +61,57 @@ module _ (m : List ℕ) (good : mapNumber m ≡ 0) where
   good-count = let f = formed m (passed .0) in (f .least, f .most)
 
   -- each entry of a good map is good
-  pub good-entry : (a : ℕ) → a < countOf m → entryGood a (registerAt m a) ≡ true
+  pub good-entry : (a : ℕ) → a < countOf m → entryGood (kindsOf c) a (registerAt m a) ≡ true
   good-entry a h =
       rw zero-add at
-      (entries-each m 0 (countOf m) (and-left (entriesGood m 0 (countOf m)) (every (furtherTests m)) (passed .1)) a h)
+      (entries-each (kindsOf c) m 0 (countOf m) (and-left (entriesGood (kindsOf c) m 0 (countOf m)) (every (furtherTests c m)) (passed .1)) a h)
 
-  -- control exactly at 0x0000, 0x0001 and 0x000F, as a test
-  control-exactly : (a : ℕ) → a < countOf m → eqb (registerAt m a .kind) control ≡ (eqb a 0x0000 || (eqb a 0x0001 || eqb a 0x000F))
+  -- control stands exactly at its places, as a test
+  control-exactly : (a : ℕ) → a < countOf m → eqb (registerAt m a .kind) control ≡ controlPlace c a
   unfolding entryGood
   control-exactly a h =
-      placed-control a (registerAt m a .kind)
-      (and-right (kindRule (registerAt m a)) (placeRule a (registerAt m a .kind)) (good-entry a h))
+      placed-control c a (registerAt m a .kind)
+      (and-right (kindRule (registerAt m a)) (placeRule (kindsOf c) a (registerAt m a .kind)) (good-entry a h))
 
-  -- each place that is one of the three holds control
-  control-at : (a : ℕ) → a < places → (eqb a 0x0000 || (eqb a 0x0001 || eqb a 0x000F)) ≡ true → registerAt m a .kind ≡ control
+  control-at : (a : ℕ) → a < leastCount → controlPlace c a ≡ true → registerAt m a .kind ≡ control
   control-at a l t = eqb-true (registerAt m a .kind) control (control-exactly a (omega (arith, good-count)) ∙ t)
 
-  pub control-15 : registerAt m 0x000F .kind ≡ control
-  control-15 = control-at 0x000F (omega arith) refl
+-- the register that asks for a transfer is a control register
+pub control-transfer : (c : Chip) (m : List ℕ) → mapNumber c m ≡ 0 → registerAt m (transferPlace c) .kind ≡ control
+control-transfer Newer m good = control-at Newer m good 0x000F (omega arith) refl
+control-transfer (Older part top) m good = control-at (Older part top) m good 0x0005 (omega arith) refl
+
+-- the top of an older part that it can have
+pub top-bounds : (part : Part) (top : ℕ) → topGood (Older part top) ≡ true → (0x000F ≤ top) × (top ≤ 0x1FFF)
+top-bounds part top h =
+    let least = leb 0x000F top in
+    let most = leb top 0x1FFF in
+    (leb-true 0x000F top (and-left least most h), leb-true top 0x1FFF (and-right least most h))
+
+-- it fits the map where n is the next number
+pub next-is-count :
+    (part : Part) (top : ℕ) (m : List ℕ) → topGood (Older part top) ≡ true → eqb (top + 1) (countOf m) ≡ topFits (Older part top) m
+next-is-count part top m h = rw h (go (eqb top (countOf m - 1)) refl)
+  where
+    least : 0x000F ≤ top
+    least = top-bounds part top h .0
+
+    go : (b : Bool) → eqb top (countOf m - 1) ≡ b → eqb (top + 1) (countOf m) ≡ b
+    go true e = eq-eqb (top + 1) (countOf m) (omega (arith, least, eqb-true top (countOf m - 1) e))
+    go false e = ne-eqb (top + 1) (countOf m) (λ q. false≢true (sym e ∙ eq-eqb top (countOf m - 1) (omega (arith, q))))
 
 -- the rules go by the registers alone, so of two maps with the same registers, both of good form, both are good or none
-module _ (m m′ : List ℕ) (s : SameRegisters m m′) where
-  entries-same : (a k : ℕ) → entriesGood m a k ≡ entriesGood m′ a k
+module _ (c : Chip) (m m′ : List ℕ) (s : SameRegisters m m′) where
+  entries-same : (kinds : List ℕ) (a k : ℕ) → entriesGood kinds m a k ≡ entriesGood kinds m′ a k
   unfolding entriesGood
-  entries-same a zero = refl
-  entries-same a (suc k) = rw (s .same-entry a, entries-same (a + 1) k)
+  entries-same kinds a zero = refl
+  entries-same kinds a (suc k) = rw (s .same-entry a, entries-same kinds (a + 1) k)
 
-  pub good-alike : mapNumber m ≡ 0 → every (formTests m′) ≡ true → mapNumber m′ ≡ 0
+  further-same : (c : Chip) → furtherTests c m ≡ furtherTests c m′
+  further-same Newer = rw (s .same-entry 0x000C, s .same-entry 0x000D, s .same-entry 0x0004, s .same-entry 0x0005, s .same-entry 0x000A)
+  further-same (Older part top) = refl
+
+  pub good-alike : mapNumber c m ≡ 0 → every (formTests m′) ≡ true → mapNumber c m′ ≡ 0
   unfolding mapNumber
   good-alike good form =
-      let rules = passed m good .1 in
-      rw (
-        form,
-        ← s .same-entry 0x000C,
-        ← s .same-entry 0x000D,
-        ← s .same-entry 0x0004,
-        ← s .same-entry 0x0005,
-        ← s .same-entry 0x000A,
-        ← entries-same 0 (countOf m′),
-        ← s .same-count,
-        rules,
-      )
+      rw (form, ← further-same c, ← entries-same (kindsOf c) 0 (countOf m′), ← s .same-count, passed c m good .1)

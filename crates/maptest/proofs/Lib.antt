@@ -1,3 +1,3 @@
-pub mod Entries
 pub mod PlaceKinds
+pub mod Entries
 pub mod Laws

@@ -1,57 +1,79 @@
--- What a place asks of the kind: nothing but "no control" from 0x0010 on, and control at three places alone.
+-- What a place asks of the kind: nothing but "no control" beyond the table, and control at a few places alone.
 use mathlib.Core.Path.{_≡_, refl, ap, sym, _∙_}
-use mathlib.Core.Bool.{Bool, true, false, cond, not, _||_}
+use mathlib.Core.Bool.{Bool, true, false, _&&_, _||_}
+use mathlib.Core.List.{List, []}
 use Prim.Native.Nat.{ℕ, _≤_, _<_}
 use native.Mathlib.Omega.{arith}
 use borrow.Author.Tests.{ltb-true, ltb-false, eqb-true, ne-eqb, not-true}
-use lib.ListN.{getD, List·getD-eq-default}
+use lib.ListN.{length, getD, List·getD-eq-default}
 use lib.Seq.{drop-cons}
 use lib.Dec.{eqb, ltb}
-use Rattle.bits.proofs.Cases.{yes}
 use Rattle.bits.proofs.Tables.{agree-below}
+use Rattle.chip.specs.declared.Part.the-variants.{Ad9557, Ad9508}
+use Rattle.chip.specs.declared.Chip.{Chip}
+use Rattle.chip.specs.declared.Chip.the-variants.{Newer, Older}
+use Rattle.chip.specs.Chip.{partReadsBuffer}
 use Rattle.regmap.specs.Format.{control}
-use Rattle.maptest.specs.MapTest.{free, places, placeKinds, placeKind, placeRule}
+use Rattle.maptest.specs.MapTest.{free, placeKinds, olderKinds, kindsOf, asAsked, placeRule}
 
--- beyond the table, and inside it, where the default doesn't matter
-pub beyond-table : (a : ℕ) → places ≤ a → placeKind a ≡ free
-beyond-table a h = List·getD-eq-default placeKinds free h
+-- inside a table the default doesn't matter
+pub in-table : (kinds : List ℕ) (a : ℕ) → a < length kinds → getD kinds a 0 ≡ getD kinds a free
+in-table kinds a h = cc (drop-cons kinds a free h, drop-cons kinds a 0 h)
 
-pub in-table : (a : ℕ) → a < places → placeKind a ≡ getD placeKinds a 0
-in-table a h = cc (drop-cons placeKinds a free h, drop-cons placeKinds a 0 h)
-
-pub free-place : (a k : ℕ) → places ≤ a → not (eqb k control) ≡ placeRule a k
+pub at-place : (kinds : List ℕ) (a k : ℕ) → a < length kinds → asAsked (getD kinds a 0) k ≡ placeRule kinds a k
 unfolding placeRule
-free-place a k h = yes _ (ap (λ (p : ℕ). eqb p free) (beyond-table a h)) refl
+at-place kinds a k h = ap (λ (p : ℕ). asAsked p k) (in-table kinds a h)
 
-abbrev asksControl : ℕ → Bool
-asksControl a = eqb (placeKind a) control
+-- beyond a table every place is free, as by the empty table
+pub beyond-table : (kinds : List ℕ) (a : ℕ) → length kinds ≤ a → getD kinds a free ≡ free
+beyond-table kinds a h = List·getD-eq-default kinds free h
 
-abbrev controlPlace : ℕ → Bool
-controlPlace a = eqb a 0x0000 || (eqb a 0x0001 || eqb a 0x000F)
+pub beyond-free : (kinds : List ℕ) (a k : ℕ) → length kinds ≤ a → placeRule [] a k ≡ placeRule kinds a k
+unfolding placeRule
+beyond-free kinds a k h = ap (λ (p : ℕ). asAsked p k) (sym (beyond-table kinds a h))
 
--- The table asks for control at 0x0000, 0x0001 and 0x000F alone: computed at its sixteen places, and beyond them all is free.
-asks-control : (a : ℕ) → asksControl a ≡ controlPlace a
-asks-control a = go (ltb a places) refl
+abbrev asksControl : List ℕ → ℕ → Bool
+asksControl kinds a = eqb (getD kinds a free) control
+
+-- the places where control stands
+abbrev pub controlPlace : Chip → ℕ → Bool
+controlPlace Newer a = eqb a 0x0000 || (eqb a 0x0001 || eqb a 0x000F)
+controlPlace (Older part top) a = eqb a 0x0000 || (eqb a 0x0005 || (eqb a 0x0004 && partReadsBuffer part))
+
+-- a table and a test of places: they agree everywhere if they do at its places, and the test fails beyond
+by-table :
+    (kinds : List ℕ) (place : ℕ → Bool) → ((a : ℕ) → a < length kinds → asksControl kinds a ≡ place a)
+    → ((a : ℕ) → length kinds ≤ a → place a ≡ false) → (a : ℕ) → asksControl kinds a ≡ place a
+by-table kinds place inside outside a = go (ltb a (length kinds)) refl
   where
-    go : (b : Bool) → ltb a places ≡ b → asksControl a ≡ controlPlace a
-    go true e = agree-below asksControl controlPlace places refl a (ltb-true a places e)
+    go : (b : Bool) → ltb a (length kinds) ≡ b → asksControl kinds a ≡ place a
+    go true e = inside a (ltb-true a (length kinds) e)
     go false e =
-        let h = ltb-false a places e in
-        rw (
-          beyond-table a h,
-          ne-eqb a 0x0000 (λ z. omega arith),
-          ne-eqb a 0x0001 (λ z. omega arith),
-          ne-eqb a 0x000F (λ z. omega arith),
-        )
+        let h = ltb-false a (length kinds) e in
+        ap (λ (p : ℕ). eqb p control) (beyond-table kinds a h) ∙ sym (outside a h)
+
+-- Each table asks for control at these places alone: computed at its own, and beyond them all is free.
+asks-control : (c : Chip) (a : ℕ) → asksControl (kindsOf c) a ≡ controlPlace c a
+asks-control Newer =
+    by-table placeKinds (controlPlace Newer) (agree-below (asksControl placeKinds) (controlPlace Newer) 16 refl)
+    (λ a h. rw (ne-eqb a 0x0000 (λ z. omega arith), ne-eqb a 0x0001 (λ z. omega arith), ne-eqb a 0x000F (λ z. omega arith)))
+asks-control (Older Ad9557 top) =
+    by-table (olderKinds Ad9557) (controlPlace (Older Ad9557 top))
+    (agree-below (asksControl (olderKinds Ad9557)) (controlPlace (Older Ad9557 top)) 6 refl)
+    (λ a h. rw (ne-eqb a 0x0000 (λ z. omega arith), ne-eqb a 0x0005 (λ z. omega arith), ne-eqb a 0x0004 (λ z. omega arith)))
+asks-control (Older Ad9508 top) =
+    by-table (olderKinds Ad9508) (controlPlace (Older Ad9508 top))
+    (agree-below (asksControl (olderKinds Ad9508)) (controlPlace (Older Ad9508 top)) 6 refl)
+    (λ a h. rw (ne-eqb a 0x0000 (λ z. omega arith), ne-eqb a 0x0005 (λ z. omega arith), ne-eqb a 0x0004 (λ z. omega arith)))
 
 -- a kind that is as the place p asks is control where p is
-as-asked : (p k : ℕ) → cond (eqb p free) (not (eqb k control)) (eqb k p) ≡ true → eqb k control ≡ eqb p control
-as-asked p k h = go (eqb p free) refl
+control-as-asked : (p k : ℕ) → asAsked p k ≡ true → eqb k control ≡ eqb p control
+control-as-asked p k h = go (eqb p free) refl
   where
     go : (b : Bool) → eqb p free ≡ b → eqb k control ≡ eqb p control
     go true e = not-true (eqb k control) (rw e at h) ∙ sym (ap (λ (x : ℕ). eqb x control) (eqb-true p free e))
     go false e = ap (λ (x : ℕ). eqb x control) (eqb-true k p (rw e at h))
 
-pub placed-control : (a k : ℕ) → placeRule a k ≡ true → eqb k control ≡ controlPlace a
+pub placed-control : (c : Chip) (a k : ℕ) → placeRule (kindsOf c) a k ≡ true → eqb k control ≡ controlPlace c a
 unfolding placeRule
-placed-control a k h = as-asked (placeKind a) k h ∙ asks-control a
+placed-control c a k h = control-as-asked (getD (kindsOf c) a free) k h ∙ asks-control c a

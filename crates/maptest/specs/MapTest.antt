@@ -1,11 +1,16 @@
--- Document 01, "The map" and "Numbers given back": the map test, 0 done, 2 or 3.
-use Prim.Native.Nat.{ℕ, zero, suc, _+_, _*_, _≤_}
+-- Document 01, "The map" and "Numbers given back": the map test, 0 done, 2 or 3; and number 12, of the older parts (document 02, Ask 1).
+use Prim.Native.Nat.{ℕ, zero, suc, _+_, _-_, _*_, _≤_}
 use mathlib.Core.Path.{_≡_}
 use mathlib.Core.Bool.{Bool, true, false, cond, not, _&&_, _||_}
 use mathlib.Core.List.{List, [], _∷_}
 use lib.ListN.{length, getD}
 use lib.Dec.{eqb, leb}
 use Rattle.bits.specs.Tests.{every, unless}
+use Rattle.chip.specs.declared.Part.{Part}
+use Rattle.chip.specs.declared.Part.the-variants.{Ad9557, Ad9508}
+use Rattle.chip.specs.declared.Chip.{Chip}
+use Rattle.chip.specs.declared.Chip.the-variants.{Newer, Older}
+use Rattle.chip.specs.Chip.{topGood}
 use Rattle.regmap.specs.declared.Entry.{Entry}
 use Rattle.regmap.specs.Format.{lengthOf, versionOf, countOf, leastCount, mostCount, lengthSize, headSize, sizeOf, flagsOf}
 use Rattle.regmap.specs.Format.{blank, readOnly, plain, buffered, control, registerAt}
@@ -42,32 +47,42 @@ kindRule e =
 abbrev pub free : ℕ
 free = 9
 
--- The places that ask for a kind: 0x0000 to 0x000F.
-abbrev pub places : ℕ
-places = 16
-
--- The kind that each of them asks for.
+-- The kinds that the places of a newer chip ask for, from 0x0000 to 0x000F.
 abbrev pub placeKinds : List ℕ
 placeKinds =
     control ∷ control ∷ free ∷ readOnly ∷ readOnly ∷ readOnly ∷ readOnly ∷ blank
     ∷ free ∷ free ∷ plain ∷ readOnly ∷ readOnly ∷ readOnly ∷ blank ∷ control ∷ []
 
--- The kind that an address asks for; from 0x0010 on all places are free.
+-- Document 02, Ask 1: no place rules but control at exactly 0x0000, 0x0005 and, for the AD9557, 0x0004.
+abbrev pub olderKinds : Part → List ℕ
+olderKinds Ad9557 = control ∷ free ∷ free ∷ free ∷ control ∷ control ∷ []
+olderKinds Ad9508 = control ∷ free ∷ free ∷ free ∷ free ∷ control ∷ []
+
+-- the table that a chip's maps go by
+abbrev pub kindsOf : Chip → List ℕ
+kindsOf Newer = placeKinds
+kindsOf (Older part top) = olderKinds part
+
+-- The kind that an address asks for on a newer chip; from 0x0010 on all places are free.
 abbrev pub placeKind : ℕ → ℕ
 placeKind address = getD placeKinds address free
 
--- The kind fits the place: control exactly at 0x0000, 0x0001 and 0x000F, and the further rules' kinds.
-unfoldable pub placeRule : ℕ → ℕ → Bool
-placeRule address kind = cond (eqb (placeKind address) free) (not (eqb kind control)) (eqb kind (placeKind address))
+-- The kind is what its place asks for.
+abbrev pub asAsked : ℕ → ℕ → Bool
+asAsked place kind = cond (eqb place free) (not (eqb kind control)) (eqb kind place)
+
+-- The kind fits its place in a table; beyond its end all places are free.
+unfoldable pub placeRule : List ℕ → ℕ → ℕ → Bool
+placeRule kinds address kind = asAsked (getD kinds address free) kind
 
 -- One entry, at its address.
-unfoldable pub entryGood : ℕ → Entry → Bool
-entryGood address e = kindRule e && placeRule address (e .kind)
+unfoldable pub entryGood : List ℕ → ℕ → Entry → Bool
+entryGood kinds address e = kindRule e && placeRule kinds address (e .kind)
 
 -- k entries, from address a on
-unfoldable pub entriesGood : List ℕ → ℕ → ℕ → Bool
-entriesGood m a zero = true
-entriesGood m a (suc k) = entryGood a (registerAt m a) && entriesGood m (a + 1) k
+unfoldable pub entriesGood : List ℕ → List ℕ → ℕ → ℕ → Bool
+entriesGood kinds m a zero = true
+entriesGood kinds m a (suc k) = entryGood kinds a (registerAt m a) && entriesGood kinds m (a + 1) k
 
 -- the product number: 0x0004 low, 0x0005 high
 abbrev pub productOf : List ℕ → ℕ
@@ -86,18 +101,35 @@ vendorHigh = 0x04
 abbrev pub scratchMask : ℕ
 scratchMask = 0xFF
 
--- The further rules on single bytes: the vendor bytes, the product number, and the mask of scratch.
-abbrev pub furtherTests : List ℕ → List Bool
-furtherTests m =
+-- The further rules on single bytes: the vendor bytes, the product number, and the mask of scratch. The older parts have none.
+abbrev pub furtherTests : Chip → List ℕ → List Bool
+furtherTests Newer m =
     eqb (registerAt m 0x000C .default) vendorLow
     ∷ eqb (registerAt m 0x000D .default) vendorHigh
     ∷ productGood m
     ∷ eqb (registerAt m 0x000A .mask) scratchMask
     ∷ []
+furtherTests (Older part top) m = []
 
--- The number of the map test: the lowest that applies.
-unfoldable pub mapNumber : List ℕ → ℕ
-mapNumber m =
+-- Number 3: an entry rule or a further rule broken.
+abbrev pub rulesGood : Chip → List ℕ → Bool
+rulesGood c m = entriesGood (kindsOf c) m 0 (countOf m) && every (furtherTests c m)
+
+-- The number of a map on a chip, whatever the top: the lowest that applies.
+unfoldable pub mapNumber : Chip → List ℕ → ℕ
+mapNumber c m =
     unless (every (formTests m)) 2
-    (unless (entriesGood m 0 (countOf m) && every (furtherTests m)) 3
+    (unless (rulesGood c m) 3
+    0)
+
+-- Document 02, Ask 1: the top of an older part is one that it can have, and n less 1. A newer chip has none.
+abbrev pub topFits : Chip → List ℕ → Bool
+topFits Newer m = true
+topFits (Older part top) m = topGood (Older part top) && eqb top (countOf m - 1)
+
+-- The number of the map test: 2, 3, and then 12.
+unfoldable pub mapTestNumber : Chip → List ℕ → ℕ
+mapTestNumber c m =
+    unless (eqb (mapNumber c m) 0) (mapNumber c m)
+    (unless (topFits c m) 12
     0)

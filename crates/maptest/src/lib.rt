@@ -1,14 +1,23 @@
-// The map test: whether a register map may be used. Its number is 0, 2 or 3, the lowest that applies.
+// The map test: whether a register map may be used. Its number is 0, 2 or 3, the lowest that applies; for an older part then 12.
 ghost use mathlib.Core.Path.{_≡_};
-ghost use Prim.Native.Nat.{_<_, _-_};
+ghost use mathlib.Core.List.{[]};
+ghost use Prim.Native.Nat.{_<_, _≤_, _-_};
+ghost use lib.ListN.{length};
 ghost use Rattle.bits.specs.Tests.{every};
-ghost use Rattle.regmap.specs.Format.{countOf, registerAt};
-ghost use Rattle.maptest.specs.MapTest.{formTests, Formed, kindRule, places, entriesGood, productGood, furtherTests, mapNumber};
+ghost use Rattle.chip.specs.declared.Chip.the-variants.{Newer, Older};
+ghost use Rattle.regmap.specs.Format.{leastCount, countOf, registerAt};
+ghost use Rattle.maptest.specs.MapTest.{formTests, Formed, kindRule, olderKinds, entriesGood, productGood, furtherTests};
+ghost use Rattle.maptest.specs.MapTest.{rulesGood, mapNumber, topFits, mapTestNumber};
 
 mod places;
 
+use chip::Chip;
+use chip::Part;
+use chip::top_good;
+use places::AD9508_KINDS;
+use places::AD9557_KINDS;
 pub use places::FREE;
-use places::PLACES;
+use places::PLACE_KINDS;
 pub use places::SCRATCH_MASK;
 use places::place_good;
 pub use places::place_kind;
@@ -69,35 +78,54 @@ fn kind_good(entry: Entry) -> bool
     changes | (entry.mask == 0) & ((entry.kind == READ_ONLY) | fixed & (entry.default == 0))
 }
 
-// Whether the entries from 0x0000 to 0x000F are good.
-fn places_good(map: &[u8]) -> bool
-    requires { ⌜ Formed (now map) ⌝ }
-    ensures { λ r. ⌜ r ≡ entriesGood (now (map .entry)) 0 places ⌝ }
+// Whether the entries at the places of a table are good.
+fn places_good(kinds: &[u8], map: &[u8]) -> bool
+    requires { ⌜ (Formed (now map)) × (length (now kinds) ≤ leastCount) ⌝ }
+    ensures { λ r. ⌜ r ≡ entriesGood (now (kinds .entry)) (now (map .entry)) 0 (length (now (kinds .entry))) ⌝ }
 {
     let mut good = true;
     let mut address = 0;
-    while address < PLACES {
+    while address < kinds.len() {
         let entry = register_at(map, address);
-        good = good & kind_good(entry) & place_good(address, entry.kind);
+        good = good & kind_good(entry) & place_good(kinds[address], entry.kind);
         address += 1;
     }
     good
 }
 
-// Whether the entries from 0x0010 on are good: all places there are free.
-fn others_good(map: &[u8]) -> bool
-    requires { ⌜ Formed (now map) ⌝ }
-    ensures { λ r. ⌜ r ≡ entriesGood (now (map .entry)) places (countOf (now (map .entry)) - places) ⌝ }
+// Whether the entries from an address on are good, where all places are free.
+fn others_good(first: usize, map: &[u8]) -> bool
+    requires { ⌜ (Formed (now map)) × (first ≤ leastCount) ⌝ }
+    ensures { λ r. ⌜ r ≡ entriesGood [] (now (map .entry)) first (countOf (now (map .entry)) - first) ⌝ }
 {
     let n = count(map);
     let mut good = true;
-    let mut address = PLACES;
+    let mut address = first;
     while address < n {
         let entry = register_at(map, address);
         good = good & kind_good(entry) & (entry.kind != CONTROL);
         address += 1;
     }
     good
+}
+
+// Whether all entries are good by a table: at its places, and beyond them.
+fn entries_good(kinds: &[u8], map: &[u8]) -> bool
+    requires { ⌜ (Formed (now map)) × (length (now kinds) ≤ leastCount) ⌝ }
+    ensures { λ r. ⌜ r ≡ entriesGood (now (kinds .entry)) (now (map .entry)) 0 (countOf (now (map .entry))) ⌝ }
+{
+    places_good(kinds, map) & others_good(kinds.len(), map)
+}
+
+// Whether all entries are good on an older part.
+fn older_good(part: Part, map: &[u8]) -> bool
+    requires { ⌜ Formed (now map) ⌝ }
+    ensures { λ r. ⌜ r ≡ entriesGood (olderKinds part) (now (map .entry)) 0 (countOf (now (map .entry))) ⌝ }
+{
+    match part {
+        Part::Ad9557 => entries_good(&AD9557_KINDS, map),
+        Part::Ad9508 => entries_good(&AD9508_KINDS, map),
+    }
 }
 
 // Whether the product number is neither 0x0000 nor 0xFFFF.
@@ -114,7 +142,7 @@ pub fn product_good(map: &[u8]) -> bool
 // Whether the vendor bytes, the product number and the mask of scratch are right.
 fn further_good(map: &[u8]) -> bool
     requires { ⌜ Formed (now map) ⌝ }
-    ensures { λ r. ⌜ r ≡ every (furtherTests (now (map .entry))) ⌝ }
+    ensures { λ r. ⌜ r ≡ every (furtherTests Newer (now (map .entry))) ⌝ }
 {
     let vendor = b"\x56\x04";
     (register_at(map, 0x000C).default == vendor[0])
@@ -123,15 +151,66 @@ fn further_good(map: &[u8]) -> bool
         & (register_at(map, 0x000A).mask == SCRATCH_MASK)
 }
 
-// Whether a map may be used: 0, or 2 where its form is wrong, or 3 where an entry breaks a rule.
-pub fn map_test(map: &[u8]) -> u8
-    ensures { λ r. ⌜ r ≡ mapNumber (now (map .entry)) ⌝ }
+// Whether the entries and the further rules are good on a chip.
+fn rules_good(chip: Chip, map: &[u8]) -> bool
+    requires { ⌜ Formed (now map) ⌝ }
+    ensures { λ r. ⌜ r ≡ rulesGood chip (now (map .entry)) ⌝ }
+{
+    match chip {
+        Chip::Newer => entries_good(&PLACE_KINDS, map) & further_good(map),
+        Chip::Older { part, top: _ } => older_good(part, map),
+    }
+}
+
+// Whether a chip can have a map, whatever its top: 0, or 2 where the form is wrong, or 3 where an entry breaks a rule.
+pub fn map_number(chip: Chip, map: &[u8]) -> u8
+    ensures { λ r. ⌜ r ≡ mapNumber chip (now (map .entry)) ⌝ }
 {
     if form_good(map) {
-        if places_good(map) & others_good(map) & further_good(map) {
+        if rules_good(chip, map) {
             return 0;
         }
         return 3;
     }
     2
+}
+
+// Whether the top of an older part is one that it can have, and the last address of the map.
+pub fn top_fits(chip: Chip, map: &[u8]) -> bool
+    ensures { λ r. ⌜ r ≡ topFits chip (now (map .entry)) ⌝ }
+{
+    match chip {
+        Chip::Newer => true,
+        Chip::Older { part: _, top } => {
+            if top_good(chip) {
+                return top + 1 == count(map) as u64;
+            }
+            false
+        }
+    }
+}
+
+// Whether a map may be used with a newer chip: 0, 2 or 3.
+pub fn map_test(map: &[u8]) -> u8
+    ensures { λ r. ⌜ r ≡ mapNumber Newer (now (map .entry)) ⌝ }
+{
+    map_number(Chip::Newer, map)
+}
+
+// Whether a map may be used with an older part whose highest address is top: 0, 2, 3 or 12.
+pub fn map_test_older(part: Part, top: u64, map: &[u8]) -> u8
+    ensures { λ r. ⌜ r ≡ mapTestNumber (Older part top) (now (map .entry)) ⌝ }
+{
+    let chip = Chip::Older {
+        part: part,
+        top: top,
+    };
+    let number = map_number(chip, map);
+    if number != 0 {
+        return number;
+    }
+    if top_fits(chip, map) {
+        return 0;
+    }
+    12
 }

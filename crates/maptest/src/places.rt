@@ -1,6 +1,6 @@
 // What each place of a map asks of the kind of its register.
 ghost use mathlib.Core.Path.{_≡_};
-ghost use Rattle.maptest.specs.MapTest.{placeKind, placeRule};
+ghost use Rattle.maptest.specs.MapTest.{placeKind, asAsked};
 use regmap::BLANK;
 use regmap::CONTROL;
 use regmap::PLAIN;
@@ -12,11 +12,11 @@ pub const FREE: u8 = 9;
 // The mask of scratch.
 pub const SCRATCH_MASK: u8 = 0xFF;
 
-// The places that ask for a kind: 0x0000 to 0x000F.
-pub const PLACES: usize = 16;
+// The places of a newer chip that ask for a kind: 0x0000 to 0x000F.
+const PLACES: usize = 16;
 
 // The kind that each of them asks for.
-const PLACE_KINDS: [u8; PLACES] = [
+pub const PLACE_KINDS: [u8; PLACES] = [
     CONTROL,
     CONTROL,
     FREE,
@@ -35,7 +35,12 @@ const PLACE_KINDS: [u8; PLACES] = [
     CONTROL,
 ];
 
-// The kind that an address asks for; from 0x0010 on all places are free.
+// The same of the older parts: control at 0x0000, 0x0005 and, for the AD9557, 0x0004.
+pub const AD9557_KINDS: [u8; 6] = [CONTROL, FREE, FREE, FREE, CONTROL, CONTROL];
+
+pub const AD9508_KINDS: [u8; 6] = [CONTROL, FREE, FREE, FREE, FREE, CONTROL];
+
+// The kind that an address asks for on a newer chip; from 0x0010 on all places are free.
 pub fn place_kind(address: usize) -> u8
     ensures { λ r. ⌜ r ≡ placeKind address ⌝ }
 {
@@ -46,11 +51,10 @@ pub fn place_kind(address: usize) -> u8
     }
 }
 
-// Whether a kind fits its place.
-pub fn place_good(address: usize, kind: u8) -> bool
-    ensures { λ r. ⌜ r ≡ placeRule address kind ⌝ }
+// Whether a kind is what its place asks for.
+pub fn place_good(place: u8, kind: u8) -> bool
+    ensures { λ r. ⌜ r ≡ asAsked place kind ⌝ }
 {
-    let place = place_kind(address);
     if place == FREE {
         kind != CONTROL
     } else {

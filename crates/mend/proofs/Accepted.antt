@@ -11,7 +11,8 @@ use Rattle.bits.specs.Bytes.{byteAt}
 use Rattle.bits.specs.Tests.{every}
 use Rattle.regmap.specs.Format.{versionOf, countOf, headSize, flagsOf, headOf, entryAt, registerAt}
 use Rattle.regmap.proofs.Laws.{head-bounds}
-use Rattle.maptest.specs.MapTest.{formTests, Formed, entriesGood, productGood, furtherTests, mapNumber}
+use Rattle.chip.specs.declared.Chip.the-variants.{Newer}
+use Rattle.maptest.specs.MapTest.{formTests, Formed, placeKinds, entriesGood, productGood, furtherTests, mapNumber}
 use Rattle.mend.specs.Entry.{entry, mendedKind, cleared, withFixedBytes, mendedAt}
 use Rattle.mend.specs.Mend.{mendedFrom, mendedMap}
 use Rattle.mend.proofs.Behind.{behind, entryIn, head-size, head-byte, same-version, same-head, same-count, entry-behind}
@@ -78,13 +79,13 @@ module _ (m : List ℕ) (f : Formed m) where
         same-version m f entries,
       )
 
-  entries-good : (a k : ℕ) → a + k ≤ countOf m → entriesGood (mendedMap m) a k ≡ true
+  entries-good : (a k : ℕ) → a + k ≤ countOf m → entriesGood placeKinds (mendedMap m) a k ≡ true
   unfolding entriesGood
   entries-good a zero h = refl
   entries-good a (suc k) h =
       rw (mended-register a (omega arith), mended-good a (registerAt m a)) (entries-good (a + 1) k (omega arith))
 
-  further-good : productGood m ≡ true → every (furtherTests (mendedMap m)) ≡ true
+  further-good : productGood m ≡ true → every (furtherTests Newer (mendedMap m)) ≡ true
   unfolding every mendedAt mendedKind cleared withFixedBytes
   further-good p =
       rw (
@@ -96,6 +97,6 @@ module _ (m : List ℕ) (f : Formed m) where
         p,
       )
 
-  pub mended-accepted : every (formTests m) ≡ true → productGood m ≡ true → mapNumber (mendedMap m) ≡ 0
+  pub mended-accepted : every (formTests m) ≡ true → productGood m ≡ true → mapNumber Newer (mendedMap m) ≡ 0
   unfolding mapNumber
   mended-accepted t p = rw (form-kept, t, further-good p, count-kept, entries-good 0 (countOf m) (omega arith))

@@ -9,9 +9,13 @@ use Rattle.bits.proofs.Cases.{each, and-left, and-right}
 use Rattle.bits.proofs.Tables.{allBelow, below}
 use Rattle.regmap.specs.declared.Entry.{Entry}
 use Rattle.regmap.specs.Format.{blank, buffered, control}
-use Rattle.maptest.specs.MapTest.{kindRule, placeKind, placeRule, entryGood, free, places, vendorLow, vendorHigh, scratchMask}
+use Rattle.maptest.specs.MapTest.{kindRule, placeKind, placeRule, entryGood, free, placeKinds, vendorLow, vendorHigh, scratchMask}
 use Rattle.maptest.proofs.PlaceKinds.{beyond-table}
 use Rattle.mend.specs.Entry.{entry, mendedKind, cleared, withFixedBytes, mendedAt}
+
+-- the places of the map test's table
+abbrev places : ℕ
+places = 16
 
 -- ---- mended, an entry is good
 
@@ -20,7 +24,7 @@ abbrev placed : ℕ → ℕ → ℕ → ℕ → Entry
 placed a k mask default = withFixedBytes a (cleared (entry (cond (eqb (placeKind a) free) k (placeKind a)) mask default))
 
 -- at the sixteen places, computed for each kind that may stand at a free one
-good-below : (k mask default : ℕ) → k ≤ buffered → allBelow (λ (a : ℕ). entryGood a (placed a k mask default)) places ≡ true
+good-below : (k mask default : ℕ) → k ≤ buffered → allBelow (λ (a : ℕ). entryGood placeKinds a (placed a k mask default)) places ≡ true
 unfolding entryGood kindRule placeRule cleared withFixedBytes
 good-below zero mask default h = refl
 good-below (suc zero) mask default h = refl
@@ -38,18 +42,18 @@ good-free (suc (suc (suc zero))) mask default h = refl
 good-free (suc (suc (suc (suc k)))) mask default h = absurd (omega arith)
 
 -- beyond them all is free, and no byte is fixed
-good-beyond : (a k mask default : ℕ) → places ≤ a → k ≤ buffered → entryGood a (placed a k mask default) ≡ true
+good-beyond : (a k mask default : ℕ) → places ≤ a → k ≤ buffered → entryGood placeKinds a (placed a k mask default) ≡ true
 unfolding entryGood placeRule withFixedBytes
 good-beyond a k mask default h l =
     rw (
-      beyond-table a h,
+      beyond-table placeKinds a h,
       ne-eqb a 0x000A (λ e. omega arith),
       ne-eqb a 0x000C (λ e. omega arith),
       ne-eqb a 0x000D (λ e. omega arith),
     )
     (good-free k mask default l)
 
-pub mended-good : (a : ℕ) (e : Entry) → entryGood a (mendedAt a e) ≡ true
+pub mended-good : (a : ℕ) (e : Entry) → entryGood placeKinds a (mendedAt a e) ≡ true
 unfolding mendedAt mendedKind
 mended-good a e = go (ltb a places) refl
   where
@@ -59,9 +63,9 @@ mended-good a e = go (ltb a places) refl
     few : k ≤ buffered
     few = each (λ (x : ℕ). x ≤ buffered) (leb (e .kind) buffered) (λ t. leb-true (e .kind) buffered t) (λ t. omega arith)
 
-    go : (b : Bool) → ltb a places ≡ b → entryGood a (mendedAt a e) ≡ true
+    go : (b : Bool) → ltb a places ≡ b → entryGood placeKinds a (mendedAt a e) ≡ true
     go true t =
-        below (λ (x : ℕ). entryGood x (placed x k (e .mask) (e .default))) places (good-below k (e .mask) (e .default) few) a (ltb-true a places t)
+        below (λ (x : ℕ). entryGood placeKinds x (placed x k (e .mask) (e .default))) places (good-below k (e .mask) (e .default) few) a (ltb-true a places t)
     go false t = good-beyond a k (e .mask) (e .default) (ltb-false a places t) few
 
 -- ---- a good entry is left as it is
@@ -84,7 +88,7 @@ known (suc (suc (suc (suc (suc j))))) mask default h =
       ne-eqb k 4 (λ e. omega arith),
     ) at h))
 
-kind-kept : (a : ℕ) (e : Entry) → kindRule e ≡ true → placeRule a (e .kind) ≡ true → mendedKind a (e .kind) ≡ e .kind
+kind-kept : (a : ℕ) (e : Entry) → kindRule e ≡ true → placeRule placeKinds a (e .kind) ≡ true → mendedKind a (e .kind) ≡ e .kind
 unfolding mendedKind placeRule
 kind-kept a e h r = go (eqb (placeKind a) free) refl
   where
@@ -125,11 +129,11 @@ fixed-kept a e f =
     (λ s. each (λ (x : Entry). x ≡ e) (eqb a 0x000D) (λ t. ap (λ (b : ℕ). entry (e .kind) (e .mask) b) (sym (f .vendor-high (eqb-true a 0x000D t))))
     (λ s. refl)))
 
-pub good-kept : (a : ℕ) (e : Entry) → entryGood a e ≡ true → Further a e → mendedAt a e ≡ e
+pub good-kept : (a : ℕ) (e : Entry) → entryGood placeKinds a e ≡ true → Further a e → mendedAt a e ≡ e
 unfolding mendedAt entryGood
 good-kept a e g f =
-    let rule = and-left (kindRule e) (placeRule a (e .kind)) g in
-    let place = and-right (kindRule e) (placeRule a (e .kind)) g in
+    let rule = and-left (kindRule e) (placeRule placeKinds a (e .kind)) g in
+    let place = and-right (kindRule e) (placeRule placeKinds a (e .kind)) g in
     ap (λ (k : ℕ). withFixedBytes a (cleared (entry k (e .mask) (e .default)))) (kind-kept a e rule place)
     ∙ ap (withFixedBytes a) (clear-kept (e .kind) (e .mask) (e .default) rule)
     ∙ fixed-kept a e f

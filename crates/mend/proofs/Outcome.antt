@@ -11,7 +11,8 @@ use Rattle.bits.specs.Buffer.{filled}
 use Rattle.bits.specs.Tests.{every}
 use Rattle.bits.proofs.Cases.{and-right, every-true}
 use Rattle.regmap.specs.Format.{countOf, registerAt}
-use Rattle.maptest.specs.MapTest.{Formed, entriesGood, furtherTests, vendorLow, vendorHigh, scratchMask, mapNumber}
+use Rattle.chip.specs.declared.Chip.the-variants.{Newer}
+use Rattle.maptest.specs.MapTest.{Formed, placeKinds, entriesGood, furtherTests, vendorLow, vendorHigh, scratchMask, mapNumber}
 use Rattle.maptest.proofs.Laws.{formed, passed, good-entry}
 use Rattle.mend.specs.Entry.{mendedAt}
 use Rattle.mend.specs.Mend.{listedSize, mendedMap, alteredAt, alteredFrom, alteredOf, mendNumber, Mending, mending, mendOf}
@@ -29,7 +30,7 @@ pub outcome-accepted : MendedAccepted
 unfolding mendOf
 outcome-accepted m list = go (eqb (mendNumber m (length list)) 0) refl
   where
-    go : (b : Bool) → eqb (mendNumber m (length list)) 0 ≡ b → leaves m list b .number ≡ 0 → mapNumber (leaves m list b .map) ≡ 0
+    go : (b : Bool) → eqb (mendNumber m (length list)) 0 ≡ b → leaves m list b .number ≡ 0 → mapNumber Newer (leaves m list b .map) ≡ 0
     go true e h =
         let z = eqb-true (mendNumber m (length list)) 0 e in
         let t = accepted m (length list) z in
@@ -63,30 +64,30 @@ none-altered m a (suc k) same =
     )
 
 -- the further tests, as they bear on one address
-further : (m : List ℕ) (a : ℕ) → every (furtherTests m) ≡ true → Further a (registerAt m a)
+further : (m : List ℕ) (a : ℕ) → every (furtherTests Newer m) ≡ true → Further a (registerAt m a)
 further m a t =
-    let u = every-true (furtherTests m) t in
+    let u = every-true (furtherTests Newer m) t in
     record {
       scratch = λ e. rw e (eqb-true (registerAt m 0x000A .mask) scratchMask (u .1 .1 .1 .0));
       vendor-low = λ e. rw e (eqb-true (registerAt m 0x000C .default) vendorLow (u .0));
       vendor-high = λ e. rw e (eqb-true (registerAt m 0x000D .default) vendorHigh (u .1 .0));
     }
 
-module _ (m : List ℕ) (good : mapNumber m ≡ 0) where
-  rules : every (furtherTests m) ≡ true
-  rules = and-right (entriesGood m 0 (countOf m)) (every (furtherTests m)) (passed m good .1)
+module _ (m : List ℕ) (good : mapNumber Newer m ≡ 0) where
+  rules : every (furtherTests Newer m) ≡ true
+  rules = and-right (entriesGood placeKinds m 0 (countOf m)) (every (furtherTests Newer m)) (passed Newer m good .1)
 
   none : alteredOf m ≡ []
-  none = none-altered m 0 (countOf m) (λ i h. good-kept i (registerAt m i) (good-entry m good i (omega arith)) (further m i rules))
+  none = none-altered m 0 (countOf m) (λ i h. good-kept i (registerAt m i) (good-entry Newer m good i (omega arith)) (further m i rules))
 
   -- with nothing listed, what gives the old map back is the mended map itself
   kept : mendedMap m ≡ m
   unfolding restored
-  kept = rw none at (mended-back m [] (formed m (passed m good .0)))
+  kept = rw none at (mended-back m [] (formed m (passed Newer m good .0)))
 
   number : (room : ℕ) → mendNumber m room ≡ 0
   unfolding mendNumber
-  number room = rw (passed m good .0, every-true (furtherTests m) rules .1 .1 .0, none, le-leb 0 room (omega arith))
+  number room = rw (passed Newer m good .0, every-true (furtherTests Newer m) rules .1 .1 .0, none, le-leb 0 room (omega arith))
 
 pub good-map-kept : GoodKept
 unfolding mendOf

@@ -6,16 +6,17 @@ use lib.ListN.{take, drop}
 use lib.Seq.{sets}
 use Rattle.bits.specs.Bytes.{wordAt}
 use Rattle.regmap.specs.Format.{entrySize, entryStart}
+use Rattle.chip.specs.declared.Chip.the-variants.{Newer}
 use Rattle.maptest.specs.MapTest.{mapNumber}
 use Rattle.mend.specs.Mend.{listedSize, mending, mendOf}
 
 -- The outcome is accepted by the map test.
 abbrev pub MendedAccepted : Type 0
-MendedAccepted = (m list : List ℕ) → mendOf m list .number ≡ 0 → mapNumber (mendOf m list .map) ≡ 0
+MendedAccepted = (m list : List ℕ) → mendOf m list .number ≡ 0 → mapNumber Newer (mendOf m list .map) ≡ 0
 
 -- A good map is returned as it was with an empty list.
 abbrev pub GoodKept : Type 0
-GoodKept = (m list : List ℕ) → mapNumber m ≡ 0 → mendOf m list ≡ mending 0 0 m list
+GoodKept = (m list : List ℕ) → mapNumber Newer m ≡ 0 → mendOf m list ≡ mending 0 0 m list
 
 -- Mending twice is mending once: again, with any list, nothing is altered or listed.
 abbrev pub MendedOnce : Type 0

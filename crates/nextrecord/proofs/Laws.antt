@@ -12,7 +12,8 @@ use borrow.Author.Tests.{eq-eqb, ne-eqb, le-leb, lt-leb, leb-true}
 use Rattle.bits.specs.Tests.{unless}
 use Rattle.bits.proofs.Cases.{yes, no, and-left, and-right}
 use Rattle.sizes.specs.Sizes.{recordSize}
-use Rattle.maptest.specs.MapTest.{mapNumber}
+use Rattle.maptest.specs.MapTest.{mapNumber, topFits}
+use Rattle.chip.specs.declared.Chip.{Chip}
 use Rattle.session.specs.declared.Session.{Session}
 use Rattle.session.specs.declared.Event.{Event}
 use Rattle.session.specs.State.{soundSession}
@@ -43,17 +44,18 @@ abbrev roomForAny : ℕ
 roomForAny = recordSize * 21846
 
 -- with that room, the reader's number is that of the samples
-pub room-enough : (m : List ℕ) (w : World) (xs : List ℕ) → readNumber m w xs roomForAny ≡ samplesNumber m w xs
+pub room-enough : (c : Chip) (m : List ℕ) (w : World) (xs : List ℕ) → readNumber c m w xs roomForAny ≡ samplesNumber c m w xs
 unfolding readNumber samplesNumber
-room-enough m w xs =
-    same-rest (soundSession (w .session)) 1
-    (λ t. same-rest (eqb (mapNumber m) 0) (mapNumber m)
+room-enough c m w xs =
+    same-rest (soundSession c (w .session)) 1
+    (λ t. same-rest (eqb (mapNumber c m) 0) (mapNumber c m)
     (λ t. same-rest (banksFit m (w .banks)) 4
+    (λ t. same-rest (topFits c m) 12
     (λ t. same-rest (leb (length xs) 65536 && samplesGood xs) 5
     (λ t.
     let few : length xs ≤ 65536 = leb-true (length xs) 65536 (and-left (leb (length xs) 65536) (samplesGood xs) t) in
-    let fits : recordSize * recordCount (w .session) xs ≤ roomForAny = omega (arith, records-bound (w .session) xs) in
-    rw (le-leb (recordSize * recordCount (w .session) xs) roomForAny fits)))))
+    let fits : recordSize * recordCount c (w .session) xs ≤ roomForAny = omega (arith, records-bound c (w .session) xs) in
+    rw (le-leb (recordSize * recordCount c (w .session) xs) roomForAny fits))))))
 
 good-take : (k : ℕ) (xs : List ℕ) → samplesGood xs ≡ true → samplesGood (take k xs) ≡ true
 unfolding samplesGood
@@ -61,24 +63,24 @@ good-take zero xs g = refl
 good-take (suc k) [] g = refl
 good-take (suc k) (x ∷ xs) g = rw (and-left (leb x 15) (samplesGood xs) g) (good-take k xs (and-right (leb x 15) (samplesGood xs) g))
 
-module _ (m : List ℕ) (s : Session) (act buf xs old : List ℕ) where
+module _ (c : Chip) (m : List ℕ) (s : Session) (act buf xs old : List ℕ) where
   abbrev given : World
   given = world s act buf
 
   -- a call that is refused leaves all as it was
-  next-refused : (n : ℕ) → n ≡ nextNumber m given xs (length old) → n ≢ 0 → next (outcome n given 0 old) 0 ≡ nextOf m given xs old
+  next-refused : (n : ℕ) → n ≡ nextNumber c m given xs (length old) → n ≢ 0 → next (outcome n given 0 old) 0 ≡ nextOf c m given xs old
   unfolding nextOf
   next-refused n e z =
-      no _ (ne-eqb (nextNumber m given xs (length old)) 0 (λ q. z (e ∙ q))) (ap (λ (k : ℕ). next (outcome k given 0 old) 0) e)
+      no _ (ne-eqb (nextNumber c m given xs (length old)) 0 (λ q. z (e ∙ q))) (ap (λ (k : ℕ). next (outcome k given 0 old) 0) e)
 
-  pub refused-before : (n : ℕ) → n ≡ samplesNumber m given xs → n ≢ 0 → next (outcome n given 0 old) 0 ≡ nextOf m given xs old
+  pub refused-before : (n : ℕ) → n ≡ samplesNumber c m given xs → n ≢ 0 → next (outcome n given 0 old) 0 ≡ nextOf c m given xs old
   unfolding nextNumber
-  refused-before n e z = next-refused n (no _ (ne-eqb (samplesNumber m given xs) 0 (λ q. z (e ∙ q))) e) z
+  refused-before n e z = next-refused n (no _ (ne-eqb (samplesNumber c m given xs) 0 (λ q. z (e ∙ q))) e) z
 
-  module _ (n : ℕ) (number : n ≡ samplesNumber m given xs) (zero-is : n ≡ 0) where
+  module _ (n : ℕ) (number : n ≡ samplesNumber c m given xs) (zero-is : n ≡ 0) where
     -- each test up to that of the samples holds
-    pub tested : ReadTests m given xs roomForAny
-    tested = read-tests m given xs roomForAny (room-enough m given xs ∙ sym number ∙ zero-is)
+    pub tested : ReadTests c m given xs roomForAny
+    tested = read-tests c m given xs roomForAny (room-enough c m given xs ∙ sym number ∙ zero-is)
 
     few : length xs ≤ 65536
     few = leb-true (length xs) 65536 (and-left (leb (length xs) 65536) (samplesGood xs) (tested .samples))
@@ -86,60 +88,61 @@ module _ (m : List ℕ) (s : Session) (act buf xs old : List ℕ) where
     pub mapped : Mapped m (banks act buf)
     mapped = fits-mapped m (banks act buf) (tested .fits)
 
-    module _ {e : Event} {t : Session} {j : ℕ} (f : First xs s e t j) where
+    module _ {e : Event} {t : Session} {j : ℕ} (f : First c xs s e t j) where
       short : length (take j xs) ≡ j
       short = length-take-le j xs (f .within)
 
       -- the samples that are read give the one record or none
-      count-first : recordCount s (take j xs) ≡ recordsIn e
+      count-first : recordCount c s (take j xs) ≡ recordsIn e
       count-first =
           let end : length (take j xs) ≤ j = omega (arith, short) in
-          omega (arith, counting-ended end (counted-next (counting-begun (take j xs) s (tested .sound)) (next-take (f .within) (f .path))))
+          omega (arith, counting-ended end (counted-next (counting-begun c (take j xs) s (tested .sound)) (next-take (f .within) (f .path))))
 
       pub size-fits : recordSize * recordsIn e < 2 ^ 64
-      size-fits = omega (arith, count-first, records-bound s (take j xs), short, f .within, few)
+      size-fits = omega (arith, count-first, records-bound c s (take j xs), short, f .within, few)
 
       -- only the room is left to test
-      room-next : (r : ℕ) → r ≡ unless (leb (recordSize * recordsIn e) (length old)) 6 0 → r ≡ nextNumber m given xs (length old)
+      room-next : (r : ℕ) → r ≡ unless (leb (recordSize * recordsIn e) (length old)) 6 0 → r ≡ nextNumber c m given xs (length old)
       unfolding nextNumber
-      room-next r q = yes _ (eq-eqb (samplesNumber m given xs) 0 (sym number ∙ zero-is)) (rw (taken-first f, count-first) q)
+      room-next r q = yes _ (eq-eqb (samplesNumber c m given xs) 0 (sym number ∙ zero-is)) (rw (taken-first f, count-first) q)
 
-      pub no-room : length old < recordSize * recordsIn e → next (outcome 6 given 0 old) 0 ≡ nextOf m given xs old
+      pub no-room : length old < recordSize * recordsIn e → next (outcome 6 given 0 old) 0 ≡ nextOf c m given xs old
       no-room h = next-refused 6 (room-next 6 (no _ (lt-leb (recordSize * recordsIn e) (length old) h) refl)) (λ q. omega arith)
 
       module _ (room : recordSize * recordsIn e ≤ length old) where
-        pub taking : Taking m (banks act buf) (s .settings) e old 0
-        taking = record { mapped = mapped; room = omega (arith, record-size m (banks act buf) (s .settings) e) }
+        pub taking : Taking c m (banks act buf) (s .settings) e old 0
+        taking = record { mapped = mapped; room = omega (arith, record-size c m (banks act buf) (s .settings) e) }
 
         -- the reader would not refuse just the samples that are read
-        not-refused : 0 ≡ readNumber m given (take j xs) (length old)
+        not-refused : 0 ≡ readNumber c m given (take j xs) (length old)
         unfolding readNumber
         not-refused =
             let good : samplesGood (take j xs) ≡ true = good-take j xs (and-right (leb (length xs) 65536) (samplesGood xs) (tested .samples)) in
             let less : length (take j xs) ≤ 65536 = omega (arith, short, f .within, few) in
-            let fits : recordSize * recordCount s (take j xs) ≤ length old = omega (arith, count-first) in
+            let fits : recordSize * recordCount c s (take j xs) ≤ length old = omega (arith, count-first) in
             let samples : (leb (length (take j xs)) 65536 && samplesGood (take j xs)) ≡ true = rw (le-leb (length (take j xs)) 65536 less) good in
             yes _ (tested .sound)
-            (yes _ (eq-eqb (mapNumber m) 0 (tested .good-map))
+            (yes _ (eq-eqb (mapNumber c m) 0 (tested .good-map))
             (yes _ (tested .fits)
+            (yes _ (tested .top)
             (yes _ samples
-            (yes _ (le-leb (recordSize * recordCount s (take j xs)) (length old) fits) refl))))
+            (yes _ (le-leb (recordSize * recordCount c s (take j xs)) (length old) fits) refl)))))
 
-        ready : Ready true m given (take j xs) old
+        ready : Ready c true m given (take j xs) old
         ready = record {
           sound = tested .sound;
           few = omega (arith, short, f .within, few);
           mapped = λ p. mapped;
-          room = λ p. omega (arith, records-size m (take j xs) given, count-first);
+          room = λ p. omega (arith, records-size c m (take j xs) given, count-first);
         }
 
-        pub next-done : {act′ buf′ new : List ℕ} {size : ℕ} → Taken m (banks act buf) (s .settings) e old 0 (banks act′ buf′) new size
-            → (count : ℕ) → count ≡ recordsIn e → next (outcome 0 (world t act′ buf′) count new) j ≡ nextOf m given xs old
+        pub next-done : {act′ buf′ new : List ℕ} {size : ℕ} → Taken c m (banks act buf) (s .settings) e old 0 (banks act′ buf′) new size
+            → (count : ℕ) → count ≡ recordsIn e → next (outcome 0 (world t act′ buf′) count new) j ≡ nextOf c m given xs old
         unfolding nextOf
-        next-done {act′} {buf′} {new} {size} a count c =
+        next-done {act′} {buf′} {new} {size} a count k =
             let end : length (take j xs) ≤ j = omega (arith, short) in
-            let done = ended end (again (begun m (take j xs) given old ready) (next-take (f .within) (f .path)) act′ buf′ new size a) in
+            let done = ended end (again (begun c m (take j xs) given old ready) (next-take (f .within) (f .path)) act′ buf′ new size a) in
             let same : size / recordSize ≡ count = omega (arith, place-after a) in
-            let number : nextNumber m given xs (length old) ≡ 0 = sym (room-next 0 (yes _ (le-leb (recordSize * recordsIn e) (length old) room) refl)) in
-            let read = rw same at (read-done m given (take j xs) old 0 not-refused refl (world t act′ buf′) size new done) in
-            yes _ (eq-eqb (nextNumber m given xs (length old)) 0 number) (rw (taken-first f) (ap (λ (o : Outcome). next o j) read))
+            let number : nextNumber c m given xs (length old) ≡ 0 = sym (room-next 0 (yes _ (le-leb (recordSize * recordsIn e) (length old) room) refl)) in
+            let read = rw same at (read-done c m given (take j xs) old 0 not-refused refl (world t act′ buf′) size new done) in
+            yes _ (eq-eqb (nextNumber c m given xs (length old)) 0 number) (rw (taken-first f) (ap (λ (o : Outcome). next o j) read))

@@ -8,6 +8,7 @@ use native.Mathlib.Numerals.{add-one}
 use lib.Dec.{eqb}
 use lib.ListN.{length, take}
 use borrow.Author.Tests.{eqb-true, eqb-false}
+use Rattle.chip.specs.declared.Chip.{Chip}
 use Rattle.session.specs.declared.Session.{Session}
 use Rattle.session.specs.Step.{stepOf}
 use Rattle.session.specs.Event.{eventOf}
@@ -16,26 +17,26 @@ use Rattle.run.specs.Reading.{recordCount}
 use Rattle.nextrecord.specs.NextRecord.{takenOf, firstOf}
 
 -- None of the samples before the last gives a record.
-pub none-before : (s : Session) (xs : List ℕ) (k : ℕ) → k < takenOf s xs → recordCount s (take k xs) ≡ 0
+pub none-before : (c : Chip) (s : Session) (xs : List ℕ) (k : ℕ) → k < takenOf c s xs → recordCount c s (take k xs) ≡ 0
 unfolding takenOf recordCount
-none-before s xs zero h = refl
-none-before s [] (suc k) h = refl
-none-before s (x ∷ xs) (suc k) h = go (eqb (recordsIn (eventOf s x)) 0) refl h (λ l. none-before (stepOf s x) xs k l)
+none-before c s xs zero h = refl
+none-before c s [] (suc k) h = refl
+none-before c s (x ∷ xs) (suc k) h = go (eqb (recordsIn (eventOf c s x)) 0) refl h (λ l. none-before c (stepOf c s x) xs k l)
   where
-    go : (z : Bool) → eqb (recordsIn (eventOf s x)) 0 ≡ z → suc k < cond z (takenOf (stepOf s x) xs + 1) 1
-        → (k < takenOf (stepOf s x) xs → recordCount (stepOf s x) (take k xs) ≡ 0)
-        → recordsIn (eventOf s x) + recordCount (stepOf s x) (take k xs) ≡ 0
-    go true z h rest = omega (arith, eqb-true (recordsIn (eventOf s x)) 0 z, rest (omega (arith, h)))
+    go : (z : Bool) → eqb (recordsIn (eventOf c s x)) 0 ≡ z → suc k < cond z (takenOf c (stepOf c s x) xs + 1) 1
+        → (k < takenOf c (stepOf c s x) xs → recordCount c (stepOf c s x) (take k xs) ≡ 0)
+        → recordsIn (eventOf c s x) + recordCount c (stepOf c s x) (take k xs) ≡ 0
+    go true z h rest = omega (arith, eqb-true (recordsIn (eventOf c s x)) 0 z, rest (omega (arith, h)))
     go false z h rest = absurd (omega (arith, h))
 
 -- Without a record all samples are read.
-pub all-without : (s : Session) (xs : List ℕ) → recordCount s (firstOf s xs) ≡ 0 → takenOf s xs ≡ length xs
+pub all-without : (c : Chip) (s : Session) (xs : List ℕ) → recordCount c s (firstOf c s xs) ≡ 0 → takenOf c s xs ≡ length xs
 unfolding takenOf recordCount
-all-without s [] h = refl
-all-without s (x ∷ xs) h = go (eqb (recordsIn (eventOf s x)) 0) refl h (λ e. all-without (stepOf s x) xs e)
+all-without c s [] h = refl
+all-without c s (x ∷ xs) h = go (eqb (recordsIn (eventOf c s x)) 0) refl h (λ e. all-without c (stepOf c s x) xs e)
   where
-    go : (z : Bool) → eqb (recordsIn (eventOf s x)) 0 ≡ z → recordCount s (take (cond z (takenOf (stepOf s x) xs + 1) 1) (x ∷ xs)) ≡ 0
-        → (recordCount (stepOf s x) (firstOf (stepOf s x) xs) ≡ 0 → takenOf (stepOf s x) xs ≡ length xs)
-        → cond z (takenOf (stepOf s x) xs + 1) 1 ≡ suc (length xs)
-    go true z h rest = omega (arith, rest (omega (arith, rw (add-one (takenOf (stepOf s x) xs)) at h)))
-    go false z h rest = absurd (eqb-false (recordsIn (eventOf s x)) 0 z (omega (arith, h)))
+    go : (z : Bool) → eqb (recordsIn (eventOf c s x)) 0 ≡ z → recordCount c s (take (cond z (takenOf c (stepOf c s x) xs + 1) 1) (x ∷ xs)) ≡ 0
+        → (recordCount c (stepOf c s x) (firstOf c (stepOf c s x) xs) ≡ 0 → takenOf c (stepOf c s x) xs ≡ length xs)
+        → cond z (takenOf c (stepOf c s x) xs + 1) 1 ≡ suc (length xs)
+    go true z h rest = omega (arith, rest (omega (arith, rw (add-one (takenOf c (stepOf c s x) xs)) at h)))
+    go false z h rest = absurd (eqb-false (recordsIn (eventOf c s x)) 0 z (omega (arith, h)))

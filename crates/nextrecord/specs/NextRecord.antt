@@ -6,7 +6,8 @@ use lib.ListN.{length, take}
 use lib.Dec.{eqb, leb}
 use Rattle.bits.specs.Tests.{unless}
 use Rattle.sizes.specs.Sizes.{recordSize}
-use Rattle.maptest.specs.MapTest.{mapNumber}
+use Rattle.maptest.specs.MapTest.{mapNumber, topFits}
+use Rattle.chip.specs.declared.Chip.{Chip}
 use Rattle.session.specs.declared.Session.{Session}
 use Rattle.session.specs.State.{soundSession}
 use Rattle.session.specs.Step.{stepOf}
@@ -17,28 +18,29 @@ use Rattle.refusals.specs.Numbers.{banksFit, samplesGood}
 use Rattle.reader.specs.Calls.{Outcome, outcome, readOf}
 
 -- how many samples are read
-unfoldable pub takenOf : Session → List ℕ → ℕ
-takenOf s [] = 0
-takenOf s (x ∷ xs) = cond (eqb (recordsIn (eventOf s x)) 0) (takenOf (stepOf s x) xs + 1) 1
+unfoldable pub takenOf : Chip → Session → List ℕ → ℕ
+takenOf c s [] = 0
+takenOf c s (x ∷ xs) = cond (eqb (recordsIn (eventOf c s x)) 0) (takenOf c (stepOf c s x) xs + 1) 1
 
 -- the samples that are read
-abbrev pub firstOf : Session → List ℕ → List ℕ
-firstOf s xs = take (takenOf s xs) xs
+abbrev pub firstOf : Chip → Session → List ℕ → List ℕ
+firstOf c s xs = take (takenOf c s xs) xs
 
--- Document 01, "Numbers given back": the reader's numbers up to 5, which looks at all samples handed in.
-unfoldable pub samplesNumber : List ℕ → World → List ℕ → ℕ
-samplesNumber m w samples =
-    unless (soundSession (w .session)) 1
-    (unless (eqb (mapNumber m) 0) (mapNumber m)
+-- Document 01, "Numbers given back": the reader's numbers before 6. 5 looks at all samples handed in.
+unfoldable pub samplesNumber : Chip → List ℕ → World → List ℕ → ℕ
+samplesNumber c m w samples =
+    unless (soundSession c (w .session)) 1
+    (unless (eqb (mapNumber c m) 0) (mapNumber c m)
     (unless (banksFit m (w .banks)) 4
+    (unless (topFits c m) 12
     (unless (leb (length samples) 65536 && samplesGood samples) 5
-    0)))
+    0))))
 
 -- The number of the call: 6 looks only at the record of the samples that are read.
-unfoldable pub nextNumber : List ℕ → World → List ℕ → ℕ → ℕ
-nextNumber m w samples room =
-    unless (eqb (samplesNumber m w samples) 0) (samplesNumber m w samples)
-    (unless (leb (recordSize * recordCount (w .session) (firstOf (w .session) samples)) room) 6
+unfoldable pub nextNumber : Chip → List ℕ → World → List ℕ → ℕ → ℕ
+nextNumber c m w samples room =
+    unless (eqb (samplesNumber c m w samples) 0) (samplesNumber c m w samples)
+    (unless (leb (recordSize * recordCount c (w .session) (firstOf c (w .session) samples)) room) 6
     0)
 
 -- what the call leaves: what a call of the reader leaves, and how many samples were read
@@ -50,8 +52,8 @@ abbrev pub next : Outcome → ℕ → Next
 next o taken = record { outcome = o; taken = taken }
 
 -- The call is `read` of just the samples that are read. A refusal leaves all as it was, and no sample is read.
-unfoldable pub nextOf : List ℕ → World → List ℕ → List ℕ → Next
-nextOf m w samples records =
-    cond (eqb (nextNumber m w samples (length records)) 0)
-    (next (readOf m w (firstOf (w .session) samples) records) (takenOf (w .session) samples))
-    (next (outcome (nextNumber m w samples (length records)) w 0 records) 0)
+unfoldable pub nextOf : Chip → List ℕ → World → List ℕ → List ℕ → Next
+nextOf c m w samples records =
+    cond (eqb (nextNumber c m w samples (length records)) 0)
+    (next (readOf c m w (firstOf c (w .session) samples) records) (takenOf c (w .session) samples))
+    (next (outcome (nextNumber c m w samples (length records)) w 0 records) 0)

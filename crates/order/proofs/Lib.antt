@@ -1,3 +1,4 @@
+pub mod Addresses
 pub mod Laws
 mod Early
 mod Refusals

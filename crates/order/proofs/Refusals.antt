@@ -7,61 +7,68 @@ use lib.ListN.{length}
 use lib.Dec.{leb}
 use borrow.Author.Tests.{le-leb, lt-leb}
 use Rattle.bits.specs.Tests.{every}
-use Rattle.order.specs.Order.{Order, isRead, ascending, singleInstruction, runFrom, sentOf, runBytes}
+use Rattle.chip.specs.Chip.{topGood}
+use Rattle.chip.specs.declared.Chip.{Chip}
+use Rattle.order.specs.Order.{Order, isRead, goesUp, isSingle, runFrom, sentOf, runBytes}
 use Rattle.order.specs.Samples.{samplesOf}
-use Rattle.order.specs.Number.{configuresEarly, countTests, sendNumber}
+use Rattle.order.specs.Number.{configuresEarly, countTests, mostSettings, addressesGood, sendNumber}
 use Rattle.order.proofs.Laws.{counted, length-counted}
 
 -- the tests of the numbers 7 and 10; that of 10 by the data, for a read is never refused for it
-abbrev pub named : Order → Bool
-named o = leb (o .direction) 1 && leb (o .settings) 7
+abbrev pub named : Chip → Order → Bool
+named c o = leb (o .direction) 1 && leb (o .settings) (mostSettings c)
 
-abbrev pub earlyData : Order → Bool
-earlyData o = singleInstruction o && not (isRead o) && configuresEarly (runFrom (ascending o) (o .start) (o .bytes))
+abbrev pub earlyData : Chip → Order → Bool
+earlyData c o = isSingle c o && not (isRead o) && configuresEarly (runFrom (goesUp c o) (o .start) (o .bytes))
 
-early-data : (o : Order) → (singleInstruction o && not (isRead o) && configuresEarly (runBytes o)) ≡ earlyData o
-early-data o = go (singleInstruction o) (isRead o)
+early-data : (c : Chip) (o : Order) → (isSingle c o && not (isRead o) && configuresEarly (runBytes c o)) ≡ earlyData c o
+early-data c o = go (isSingle c o) (isRead o)
   where
     early : List ℕ → Bool
-    early vs = configuresEarly (runFrom (ascending o) (o .start) vs)
+    early vs = configuresEarly (runFrom (goesUp c o) (o .start) vs)
 
     go : (single read : Bool) → (single && not read && early (sentOf read (o .count) (o .bytes))) ≡ (single && not read && early (o .bytes))
     go true true = refl
     go true false = refl
     go false read = refl
 
--- the tests of 7, 8 and 9 hold
-pub record Within (o : Order) : Type 0 where
-  pub known : named o ≡ true
+-- the tests of 12, 7, 8 and 9 hold
+pub record Within (c : Chip) (o : Order) : Type 0 where
+  pub top : topGood c ≡ true
+  pub known : named c o ≡ true
   pub count : every (countTests o) ≡ true
-  pub start : o .start ≤ 0x7FFF
+  pub addresses : addressesGood c o ≡ true
 
-module _ (o : Order) (room : ℕ) where
-  pub number-7 : named o ≡ false → 7 ≡ sendNumber o room
+module _ (c : Chip) (o : Order) (room : ℕ) where
+  pub number-12 : topGood c ≡ false → 12 ≡ sendNumber c o room
   unfolding sendNumber
-  number-7 h = rw h
+  number-12 h = rw h
 
-  pub number-8 : named o ≡ true → every (countTests o) ≡ false → 8 ≡ sendNumber o room
+  pub number-7 : topGood c ≡ true → named c o ≡ false → 7 ≡ sendNumber c o room
   unfolding sendNumber
-  number-8 h h8 = rw (h, h8)
+  number-7 h h7 = rw (h, h7)
 
-  pub number-9 : named o ≡ true → every (countTests o) ≡ true → 0x7FFF < o .start → 9 ≡ sendNumber o room
+  pub number-8 : topGood c ≡ true → named c o ≡ true → every (countTests o) ≡ false → 8 ≡ sendNumber c o room
   unfolding sendNumber
-  number-9 h h8 h9 = rw (h, h8, lt-leb _ _ h9)
+  number-8 h h7 h8 = rw (h, h7, h8)
 
-  module _ (w : Within o) where
-    pub number-10 : earlyData o ≡ true → 10 ≡ sendNumber o room
+  pub number-9 : topGood c ≡ true → named c o ≡ true → every (countTests o) ≡ true → addressesGood c o ≡ false → 9 ≡ sendNumber c o room
+  unfolding sendNumber
+  number-9 h h7 h8 h9 = rw (h, h7, h8, h9)
+
+  module _ (w : Within c o) where
+    pub number-10 : earlyData c o ≡ true → 10 ≡ sendNumber c o room
     unfolding sendNumber
-    number-10 h = rw (w .known, w .count, le-leb _ _ (w .start), early-data o ∙ h)
+    number-10 h = rw (w .top, w .known, w .count, w .addresses, early-data c o ∙ h)
 
-    module _ (h : earlyData o ≡ false) (n : ℕ) (e : n ≡ cond (singleInstruction o) (3 + 48 * o .count) (35 + 16 * o .count)) where
-      needed : n ≡ length (samplesOf o)
-      needed = e ∙ sym (length-counted o (counted o (w .count)))
+    module _ (h : earlyData c o ≡ false) (n : ℕ) (e : n ≡ cond (isSingle c o) (3 + 48 * o .count) (35 + 16 * o .count)) where
+      needed : n ≡ length (samplesOf c o)
+      needed = e ∙ sym (length-counted c o (counted o (w .count)))
 
-      pub number-11 : room < n → 11 ≡ sendNumber o room
+      pub number-11 : room < n → 11 ≡ sendNumber c o room
       unfolding sendNumber
-      number-11 hr = rw (w .known, w .count, le-leb _ _ (w .start), early-data o ∙ h, lt-leb _ _ (rw needed at hr))
+      number-11 hr = rw (w .top, w .known, w .count, w .addresses, early-data c o ∙ h, lt-leb _ _ (rw needed at hr))
 
-      pub number-0 : n ≤ room → 0 ≡ sendNumber o room
+      pub number-0 : n ≤ room → 0 ≡ sendNumber c o room
       unfolding sendNumber
-      number-0 hr = rw (w .known, w .count, le-leb _ _ (w .start), early-data o ∙ h, le-leb _ _ (rw needed at hr))
+      number-0 hr = rw (w .top, w .known, w .count, w .addresses, early-data c o ∙ h, le-leb _ _ (rw needed at hr))

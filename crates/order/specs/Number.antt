@@ -1,11 +1,14 @@
--- Document 01, "Numbers given back": the number of an order, the lowest that applies.
+-- Document 01, "Numbers given back", and document 02, Ask 1: the number of an order to a chip.
 use Prim.Native.Nat.{ℕ}
-use mathlib.Core.Bool.{Bool, false, cond, not, _&&_, _||_}
+use mathlib.Core.Bool.{Bool, true, false, cond, not, _&&_, _||_}
 use mathlib.Core.List.{List, [], _∷_}
 use lib.ListN.{length}
 use lib.Dec.{eqb, leb}
 use Rattle.bits.specs.Tests.{every, unless}
-use Rattle.order.specs.Order.{Order, RunByte, isRead, singleInstruction, runBytes}
+use Rattle.chip.specs.Chip.{isNewer, topGood}
+use Rattle.chip.specs.declared.Chip.{Chip}
+use Rattle.chip.specs.declared.Chip.the-variants.{Newer, Older}
+use Rattle.order.specs.Order.{Order, RunByte, isRead, isSingle, runBytes}
 use Rattle.order.specs.Samples.{samplesOf}
 
 -- 0x0000 or 0x0001
@@ -22,12 +25,27 @@ configuresEarly (p ∷ q ∷ ps) = isConfiguration p || configuresEarly (q ∷ p
 abbrev pub countTests : Order → List Bool
 countTests o = leb 1 (o .count) ∷ leb (o .count) 1000 ∷ eqb (length (o .bytes)) (cond (isRead o) 0 (o .count)) ∷ []
 
--- The number of the sender: the lowest that applies.
-unfoldable pub sendNumber : Order → ℕ → ℕ
-sendNumber o room =
-    unless (leb (o .direction) 1 && leb (o .settings) 7) 7
+-- the highest settings number that names settings of a chip: the older ones have LSB first alone
+abbrev pub mostSettings : Chip → ℕ
+mostSettings c = cond (isNewer c) 7 1
+
+-- every address of a run is 0 to the top
+unfoldable pub upTo : ℕ → List RunByte → Bool
+upTo top [] = true
+upTo top (p ∷ ps) = leb (p .address) top && upTo top ps
+
+-- what number 9 asks: a start of at most 0x7FFF; on the older chips (document 02, Ask 1) a run that does not leave 0 to the top
+abbrev pub addressesGood : Chip → Order → Bool
+addressesGood Newer o = leb (o .start) 0x7FFF
+addressesGood (Older part top) o = upTo top (runBytes (Older part top) o)
+
+-- The number of the sender: the lowest that applies, but 12, which only the older chips have, comes first.
+unfoldable pub sendNumber : Chip → Order → ℕ → ℕ
+sendNumber c o room =
+    unless (topGood c) 12
+    (unless (leb (o .direction) 1 && leb (o .settings) (mostSettings c)) 7
     (unless (every (countTests o)) 8
-    (unless (leb (o .start) 0x7FFF) 9
-    (unless (not (singleInstruction o && not (isRead o) && configuresEarly (runBytes o))) 10
-    (unless (leb (length (samplesOf o)) room) 11
-    0))))
+    (unless (addressesGood c o) 9
+    (unless (not (isSingle c o && not (isRead o) && configuresEarly (runBytes c o))) 10
+    (unless (leb (length (samplesOf c o)) room) 11
+    0)))))

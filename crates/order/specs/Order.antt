@@ -1,10 +1,12 @@
 -- Document 01, "The sender": an order, and the bytes of its run with their addresses.
 use Prim.Native.Nat.{ℕ}
-use mathlib.Core.Bool.{Bool, cond}
+use mathlib.Core.Bool.{Bool, cond, _&&_}
 use mathlib.Core.List.{List, [], _∷_}
 use lib.ListN.{replicate}
 use lib.Dec.{eqb}
 use Rattle.bits.specs.Bits.{bitAt}
+use Rattle.chip.specs.Chip.{isNewer}
+use Rattle.chip.specs.declared.Chip.{Chip}
 use Rattle.settings.specs.Settings.{nextAddress}
 use Rattle.order.specs.declared.Order as declared
 
@@ -42,12 +44,20 @@ ascending o = bitAt (o .settings) 1
 abbrev pub singleInstruction : Order → Bool
 singleInstruction o = bitAt (o .settings) 2
 
+-- Document 02, Ask 1: on the older chips highest bit first goes down in address, lowest first up.
+abbrev pub goesUp : Chip → Order → Bool
+goesUp c o = cond (isNewer c) (ascending o) (lsbFirst o)
+
+-- Only the newer chips have single instruction.
+abbrev pub isSingle : Chip → Order → Bool
+isSingle c o = isNewer c && singleInstruction o
+
 -- one byte of a run
 pub record RunByte : Type 0 where
   pub address : ℕ
   pub byte : ℕ
 
--- Document 01, "The stopped run": the start, then one up (ascending) or down each time, modulo 0x8000.
+-- Document 01, "The stopped run": the start, then one up or down each time, modulo 0x8000.
 unfoldable pub runFrom : Bool → ℕ → List ℕ → List RunByte
 runFrom up a [] = []
 runFrom up a (v ∷ vs) = record { address = a; byte = v } ∷ runFrom up (nextAddress up a) vs
@@ -59,5 +69,5 @@ sentOf read count bytes = cond read (replicate count 0) bytes
 abbrev pub sentBytes : Order → List ℕ
 sentBytes o = sentOf (isRead o) (o .count) (o .bytes)
 
-abbrev pub runBytes : Order → List RunByte
-runBytes o = runFrom (ascending o) (o .start) (sentBytes o)
+abbrev pub runBytes : Chip → Order → List RunByte
+runBytes c o = runFrom (goesUp c o) (o .start) (sentBytes o)

@@ -10,6 +10,7 @@ use lib.ListN.{length}
 use borrow.Author.Tests.{eq-eqb, ne-eqb, leb-true}
 use Rattle.bits.proofs.Cases.{yes, no, and-left}
 use Rattle.sizes.specs.Sizes.{recordSize}
+use Rattle.chip.specs.declared.Chip.{Chip}
 use Rattle.maptest.specs.MapTest.{mapNumber}
 use Rattle.session.specs.declared.Session.{Session}
 use Rattle.soundness.specs.Opened.{openedSession}
@@ -22,48 +23,48 @@ use Rattle.refusals.proofs.Laws.{opens, fits-mapped, read-tests}
 use Rattle.reader.specs.Calls.{Opening, opening, openOf, outcome, readOf}
 
 -- a map that opening does not refuse is good
-pub opened-good : (m : List ℕ) (b : Banks) {number : ℕ} {s : Session} {after : Banks} → opening number s after ≡ openOf m b → number ≡ 0
-    → mapNumber m ≡ 0
+pub opened-good : (c : Chip) (m : List ℕ) (b : Banks) {number : ℕ} {s : Session} {after : Banks} → opening number s after ≡ openOf c m b → number ≡ 0
+    → mapNumber c m ≡ 0
 unfolding openOf
-opened-good m b e z = opens m b (sym (ap (λ (o : Opening). o .number) e) ∙ z) .0
+opened-good c m b e z = opens c m b (sym (ap (λ (o : Opening). o .number) e) ∙ z) .good-map
 
-module _ (m : List ℕ) (b : Banks) (n : ℕ) (given : n ≡ openNumber m b) (s : Session) (fresh : s ≡ openedSession) where
-  pub open-refused : n ≢ 0 → opening n s b ≡ openOf m b
+module _ (c : Chip) (m : List ℕ) (b : Banks) (n : ℕ) (given : n ≡ openNumber c m b) (s : Session) (fresh : s ≡ openedSession) where
+  pub open-refused : n ≢ 0 → opening n s b ≡ openOf c m b
   unfolding openOf
   open-refused z =
-      let t : eqb (openNumber m b) 0 ≡ false = ne-eqb (openNumber m b) 0 (λ q. z (given ∙ q)) in
+      let t : eqb (openNumber c m b) 0 ≡ false = ne-eqb (openNumber c m b) 0 (λ q. z (given ∙ q)) in
       rw t (rw (given, fresh))
 
-  pub open-done : n ≡ 0 → (after : Banks) → after ≡ defaultBanks m → opening n s after ≡ openOf m b
+  pub open-done : n ≡ 0 → (after : Banks) → after ≡ defaultBanks m → opening n s after ≡ openOf c m b
   unfolding openOf
   open-done z after e =
-      let t : eqb (openNumber m b) 0 ≡ true = eq-eqb (openNumber m b) 0 (sym given ∙ z) in
+      let t : eqb (openNumber c m b) 0 ≡ true = eq-eqb (openNumber c m b) 0 (sym given ∙ z) in
       rw t (rw (given, fresh, e))
 
 -- where the number is 0, nothing can be refused any more
-pub read-ready : {put : Bool} (m : List ℕ) (w : World) (xs records : List ℕ) (n : ℕ) → n ≡ readNumber m w xs (length records) → n ≡ 0
-    → Ready put m w xs records
-read-ready m w xs records n e z =
-    let t = read-tests m w xs (length records) (sym e ∙ z) in
+pub read-ready : {put : Bool} (c : Chip) (m : List ℕ) (w : World) (xs records : List ℕ) (n : ℕ) → n ≡ readNumber c m w xs (length records) → n ≡ 0
+    → Ready c put m w xs records
+read-ready c m w xs records n e z =
+    let t = read-tests c m w xs (length records) (sym e ∙ z) in
     record {
       sound = t .sound;
       few = leb-true (length xs) 65536 (and-left (leb (length xs) 65536) (samplesGood xs) (t .samples));
       mapped = λ p. fits-mapped m (w .banks) (t .fits);
-      room = λ p. omega (arith, records-size m xs w, leb-true (recordSize * recordCount (w .session) xs) (length records) (t .enough));
+      room = λ p. omega (arith, records-size c m xs w, leb-true (recordSize * recordCount c (w .session) xs) (length records) (t .enough));
     }
 
 -- a call that is refused leaves all as it was
-pub read-refused : (m : List ℕ) (w : World) (xs records : List ℕ) (n : ℕ) → n ≡ readNumber m w xs (length records) → n ≢ 0
-    → outcome n w 0 records ≡ readOf m w xs records
+pub read-refused : (c : Chip) (m : List ℕ) (w : World) (xs records : List ℕ) (n : ℕ) → n ≡ readNumber c m w xs (length records) → n ≢ 0
+    → outcome n w 0 records ≡ readOf c m w xs records
 unfolding readOf
-read-refused m w xs records n e z =
-    no _ (ne-eqb (readNumber m w xs (length records)) 0 (λ q. z (e ∙ q))) (ap (λ (k : ℕ). outcome k w 0 records) e)
+read-refused c m w xs records n e z =
+    no _ (ne-eqb (readNumber c m w xs (length records)) 0 (λ q. z (e ∙ q))) (ap (λ (k : ℕ). outcome k w 0 records) e)
 
 -- a call that is done leaves what the pass over the samples gave
-pub read-done : (m : List ℕ) (w : World) (xs records : List ℕ) (n : ℕ) → n ≡ readNumber m w xs (length records) → n ≡ 0
-    → (after : World) (size : ℕ) (new : List ℕ) → Done m w xs records after size new
-    → outcome 0 after (size / recordSize) new ≡ readOf m w xs records
+pub read-done : (c : Chip) (m : List ℕ) (w : World) (xs records : List ℕ) (n : ℕ) → n ≡ readNumber c m w xs (length records) → n ≡ 0
+    → (after : World) (size : ℕ) (new : List ℕ) → Done c m w xs records after size new
+    → outcome 0 after (size / recordSize) new ≡ readOf c m w xs records
 unfolding readOf
-read-done m w xs records n e z after size new d =
-    let count : size / recordSize ≡ recordCount (w .session) xs = omega (arith, d .size-is, records-size m xs w) in
-    yes _ (eq-eqb (readNumber m w xs (length records)) 0 (sym e ∙ z)) (rw (d .world-after, d .records-after, count))
+read-done c m w xs records n e z after size new d =
+    let count : size / recordSize ≡ recordCount c (w .session) xs = omega (arith, d .size-is, records-size c m xs w) in
+    yes _ (eq-eqb (readNumber c m w xs (length records)) 0 (sym e ∙ z)) (rw (d .world-after, d .records-after, count))

@@ -1,13 +1,16 @@
 // The reader: sampled line levels and a register map in, records and both stages of every register out.
 //
-// Two public calls, `open` and `read`, with no `requires`: anything may be handed in, and what cannot be read is refused with
-// document 01's number before anything is changed.
+// Two public calls, `open` and `read`, each also for the older parts and for any chip, with no `requires`: anything may be handed in, and
+// what cannot be read is refused with document 01's number before anything is changed.
 ghost use mathlib.Core.Path.{_≡_};
+ghost use Rattle.chip.specs.declared.Chip.the-variants.{Newer, Older};
 ghost use Rattle.maptest.specs.MapTest.{mapNumber};
 ghost use Rattle.registers.specs.Banks.{banks};
 ghost use Rattle.run.specs.Reading.{world};
 ghost use Rattle.reader.specs.Calls.{opening, openOf, outcome, readOf};
-use maptest::map_test;
+use chip::Chip;
+use chip::Part;
+use maptest::map_number;
 use refusals::open_refusal;
 use refusals::read_refusal;
 use run::run_samples;
@@ -29,11 +32,12 @@ pub struct Answer {
     pub count: usize,
 }
 
-// Puts each default in both banks. The opened session is returned always.
-pub fn open(map: &[u8], active: &mut [u8], buffer: &mut [u8]) -> Opened
-    ensures { λ r. ⌜ opening (r .number) (r .session) (banks (now (active .exit)) (now (buffer .exit))) ≡ openOf (now (map .entry)) (banks (now (active .entry)) (now (buffer .entry))) ⌝ }
+// Puts each default in both banks. The opened session is returned always. `open` and `open_older` are this call for one kind of chip;
+// a program that has the chip as a value calls it by itself.
+pub fn open_on(chip: Chip, map: &[u8], active: &mut [u8], buffer: &mut [u8]) -> Opened
+    ensures { λ r. ⌜ opening (r .number) (r .session) (banks (now (active .exit)) (now (buffer .exit))) ≡ openOf chip (now (map .entry)) (banks (now (active .entry)) (now (buffer .entry))) ⌝ }
 {
-    let number = open_refusal(map_test(map), map, active, buffer);
+    let number = open_refusal(chip, map_number(chip, map), map, active, buffer);
     let session = opened();
     if number == 0 {
         registers::reset(map, active, buffer);
@@ -47,6 +51,7 @@ pub fn open(map: &[u8], active: &mut [u8], buffer: &mut [u8]) -> Opened
 // Reads samples on a map that is known to be good, as opening has shown it. This is no public call: it is for a program that
 // reads one trace in many pieces and tests the map once.
 pub fn read_tested(
+    chip: Chip,
     map: &[u8],
     session: Session,
     active: &mut [u8],
@@ -54,10 +59,10 @@ pub fn read_tested(
     samples: &[u8],
     records: &mut [u8],
 ) -> Answer
-    requires { ⌜ mapNumber (now map) ≡ 0 ⌝ }
-    ensures { λ r. ⌜ outcome (r .number) (world (r .session) (now (active .exit)) (now (buffer .exit))) (r .count) (now (records .exit)) ≡ readOf (now (map .entry)) (world session (now (active .entry)) (now (buffer .entry))) (now (samples .entry)) (now (records .entry)) ⌝ }
+    requires { ⌜ mapNumber chip (now map) ≡ 0 ⌝ }
+    ensures { λ r. ⌜ outcome (r .number) (world (r .session) (now (active .exit)) (now (buffer .exit))) (r .count) (now (records .exit)) ≡ readOf chip (now (map .entry)) (world session (now (active .entry)) (now (buffer .entry))) (now (samples .entry)) (now (records .entry)) ⌝ }
 {
-    let refused = read_refusal(map, session, active, buffer, samples, records.len());
+    let refused = read_refusal(chip, map, session, active, buffer, samples, records.len());
     if refused != 0 {
         return Answer {
             number: refused,
@@ -65,7 +70,7 @@ pub fn read_tested(
             count: 0,
         };
     }
-    let done = run_samples(true, map, session, active, buffer, samples, records);
+    let done = run_samples(chip, true, map, session, active, buffer, samples, records);
     let next = done.session;
     Answer {
         number: 0,
@@ -74,8 +79,9 @@ pub fn read_tested(
     }
 }
 
-// Reads samples: the session and the banks that they lead to, and their records, from the buffer's start.
-pub fn read(
+// Reads samples of any chip, as `read` and `read_older` do of one kind.
+pub fn read_on(
+    chip: Chip,
     map: &[u8],
     session: Session,
     active: &mut [u8],
@@ -83,13 +89,13 @@ pub fn read(
     samples: &[u8],
     records: &mut [u8],
 ) -> Answer
-    ensures { λ r. ⌜ outcome (r .number) (world (r .session) (now (active .exit)) (now (buffer .exit))) (r .count) (now (records .exit)) ≡ readOf (now (map .entry)) (world session (now (active .entry)) (now (buffer .entry))) (now (samples .entry)) (now (records .entry)) ⌝ }
+    ensures { λ r. ⌜ outcome (r .number) (world (r .session) (now (active .exit)) (now (buffer .exit))) (r .count) (now (records .exit)) ≡ readOf chip (now (map .entry)) (world session (now (active .entry)) (now (buffer .entry))) (now (samples .entry)) (now (records .entry)) ⌝ }
 {
-    let refused = map_test(map);
+    let refused = map_number(chip, map);
     if refused == 0 {
-        return read_tested(map, session, active, buffer, samples, records);
+        return read_tested(chip, map, session, active, buffer, samples, records);
     }
-    if sound(session) {
+    if sound(chip, session) {
         return Answer {
             number: refused,
             session: session,
@@ -101,4 +107,56 @@ pub fn read(
         session: session,
         count: 0,
     }
+}
+
+// Puts each default in both banks. The opened session is returned always.
+pub fn open(map: &[u8], active: &mut [u8], buffer: &mut [u8]) -> Opened
+    ensures { λ r. ⌜ opening (r .number) (r .session) (banks (now (active .exit)) (now (buffer .exit))) ≡ openOf Newer (now (map .entry)) (banks (now (active .entry)) (now (buffer .entry))) ⌝ }
+{
+    open_on(Chip::Newer, map, active, buffer)
+}
+
+// The same for an older part with the highest address that it has.
+pub fn open_older(part: Part, top: u64, map: &[u8], active: &mut [u8], buffer: &mut [u8]) -> Opened
+    ensures { λ r. ⌜ opening (r .number) (r .session) (banks (now (active .exit)) (now (buffer .exit))) ≡ openOf (Older part top) (now (map .entry)) (banks (now (active .entry)) (now (buffer .entry))) ⌝ }
+{
+    let chip = Chip::Older {
+        part: part,
+        top: top,
+    };
+    open_on(chip, map, active, buffer)
+}
+
+// Reads samples: the session and the banks that they lead to, and their records, from the buffer's start.
+pub fn read(
+    map: &[u8],
+    session: Session,
+    active: &mut [u8],
+    buffer: &mut [u8],
+    samples: &[u8],
+    records: &mut [u8],
+) -> Answer
+    ensures { λ r. ⌜ outcome (r .number) (world (r .session) (now (active .exit)) (now (buffer .exit))) (r .count) (now (records .exit)) ≡ readOf Newer (now (map .entry)) (world session (now (active .entry)) (now (buffer .entry))) (now (samples .entry)) (now (records .entry)) ⌝ }
+{
+    read_on(Chip::Newer, map, session, active, buffer, samples, records)
+}
+
+// The same for an older part with the highest address that it has.
+pub fn read_older(
+    part: Part,
+    top: u64,
+    map: &[u8],
+    session: Session,
+    active: &mut [u8],
+    buffer: &mut [u8],
+    samples: &[u8],
+    records: &mut [u8],
+) -> Answer
+    ensures { λ r. ⌜ outcome (r .number) (world (r .session) (now (active .exit)) (now (buffer .exit))) (r .count) (now (records .exit)) ≡ readOf (Older part top) (now (map .entry)) (world session (now (active .entry)) (now (buffer .entry))) (now (samples .entry)) (now (records .entry)) ⌝ }
+{
+    let chip = Chip::Older {
+        part: part,
+        top: top,
+    };
+    read_on(chip, map, session, active, buffer, samples, records)
 }

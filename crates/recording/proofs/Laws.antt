@@ -1,28 +1,36 @@
 -- What the program's functions cite of what came from standard input and of what the reader left.
-use mathlib.Core.Path.{_≡_, ap}
-use Prim.Native.Nat.{ℕ, _+_, _*_, _/_, _%_, _<_, _≤_}
-use mathlib.Core.Bool.{_&&_}
+use mathlib.Core.Path.{_≡_, refl, ap}
+use Prim.Native.Nat.{ℕ, _+_, _-_, _*_, _/_, _%_, _^_, _<_, _≤_}
+use mathlib.Core.Bool.{true, _&&_}
 use mathlib.Core.List.{List}
 use native.Mathlib.Omega.{arith}
 use lib.ListN.{length, take}
 use lib.Seq.{length-take-le}
 use lib.Dec.{eqb, leb}
-use borrow.Author.Tests.{eqb-true, leb-true}
+use borrow.Author.Tests.{eq-eqb, eqb-true, le-leb, leb-true}
 use Rattle.sizes.specs.Sizes.{recordSize}
 use Rattle.bits.proofs.Cases.{each, and-left, and-right}
+use Rattle.chip.specs.declared.Chip.{Chip}
+use Rattle.regmap.specs.Format.{countOf}
+use Rattle.maptest.specs.MapTest.{mapNumber, topFits}
+use Rattle.maptest.proofs.Laws.{good-count}
 use Rattle.session.specs.declared.Session.{Session}
 use Rattle.registers.specs.Banks.{Banks}
-use Rattle.records.specs.Slow.{slowOf}
 use Rattle.records.proofs.SlowCount.{slow-most}
 use Rattle.run.specs.Reading.{World}
 use Rattle.run.proofs.Bound.{piece-bound}
 use Rattle.refusals.specs.Numbers.{openNumber, readNumber}
 use Rattle.refusals.proofs.Laws.{open-number-most, read-number-most, read-tests}
 use Rattle.reader.specs.Calls.{Opening, opening, openOf, Outcome, outcome, readOf}
+use Rattle.recording.specs.declared.Family.{Family}
+use Rattle.recording.specs.declared.Family.the-variants.{Newer, Older}
+use Rattle.recording.specs.declared.tally.Tally.{Tally}
 use Rattle.recording.specs.declared.input.Filled.{Filled}
 use Rattle.recording.specs.declared.input.Filled.the-variants.{Bytes, Failed}
 use Rattle.recording.specs.Sizes.{leastLength, mostLength, mapSpace, piece, recordSpace}
 use Rattle.recording.specs.Bounds.{Within, mapEnd}
+use Rattle.recording.specs.Families.{chipOf}
+use Rattle.recording.specs.Tally.{nothingRead, countedOf, Room}
 
 -- the bytes that came
 pub within-bytes : {f : Filled} {got most : ℕ} → f ≡ Bytes got → Within f most → got ≤ most
@@ -47,53 +55,94 @@ map-end-bounds length {end} e =
     (λ t. omega arith))
 
 -- the records of a call of the reader, seven bytes each, are within the buffer that was lent
-within-room : (m : List ℕ) (w : World) (samples records : List ℕ) → recordSize * readOf m w samples records .count ≤ length records
+within-room : (c : Chip) (m : List ℕ) (w : World) (samples records : List ℕ) → recordSize * readOf c m w samples records .count ≤ length records
 unfolding readOf
-within-room m w samples records =
-    each (λ (o : Outcome). recordSize * o .count ≤ length records) (eqb (readNumber m w samples (length records)) 0)
-    (λ t. leb-true _ _ (read-tests m w samples (length records) (eqb-true _ _ t) .enough)) (λ t. omega arith)
+within-room c m w samples records =
+    each (λ (o : Outcome). recordSize * o .count ≤ length records) (eqb (readNumber c m w samples (length records)) 0)
+    (λ t. leb-true _ _ (read-tests c m w samples (length records) (eqb-true _ _ t) .enough)) (λ t. omega arith)
+
+-- the top that a good map gives an older part is one that it can have
+pub top-of-map : (f : Family) (m : List ℕ) {c : Chip} → c ≡ chipOf f m → mapNumber c m ≡ 0 → topFits c m ≡ true
+unfolding chipOf
+top-of-map Newer m e good = rw e
+top-of-map (Older part) m {c} e good =
+    let n = good-count c m good in
+    rw e (rw (le-leb 0x000F (countOf m - 1) (omega (arith, n)), le-leb (countOf m - 1) 0x1FFF (omega (arith, n)), eq-eqb (countOf m - 1) (countOf m - 1) refl))
 
 -- the number that opening tells
-pub open-told : (m : List ℕ) (b : Banks) {number : ℕ} {s : Session} {after : Banks} → opening number s after ≡ openOf m b → number ≤ 5
+pub open-told : (f : Family) (m : List ℕ) {c : Chip} → c ≡ chipOf f m → (b : Banks) {number : ℕ} {s : Session} {after : Banks}
+    → opening number s after ≡ openOf c m b → number ≤ 5
 unfolding openOf
-open-told m b {number} e =
-    let told : number ≡ openNumber m b = ap (λ (o : Opening). o .number) e in
-    omega (arith, open-number-most m b)
+open-told f m {c} chip b {number} e =
+    let told : number ≡ openNumber c m b = ap (λ (o : Opening). o .number) e in
+    omega (arith, open-number-most c m (top-of-map f m chip) b)
 
--- the number that reading a piece tells: the records of 4,096 samples have room
-read-told : (m : List ℕ) (w : World) (samples records : List ℕ) → length samples ≤ piece → 9562 ≤ length records → readOf m w samples records .number ≤ 5
-unfolding readOf
-read-told m w samples records few room =
-    let most : readNumber m w samples (length records) ≤ 5 =
-    read-number-most m w samples (length records) (omega (arith, piece-bound (w .session) samples few)) in
-    each (λ (o : Outcome). o .number ≤ 5) (eqb (readNumber m w samples (length records)) 0) (λ t. omega arith) (λ t. most)
+module _ (c : Chip) (m : List ℕ) (w : World) (samples records : List ℕ) where
+  -- the number that reading a piece tells: the top is the map's, and the records of 4,096 samples have room
+  read-told : topFits c m ≡ true → length samples ≤ piece → 9562 ≤ length records → readOf c m w samples records .number ≤ 5
+  unfolding readOf
+  read-told top few room =
+      let most : readNumber c m w samples (length records) ≤ 5 =
+      read-number-most c m (λ good. top) w samples (length records) (omega (arith, piece-bound c (w .session) samples few)) in
+      each (λ (o : Outcome). o .number ≤ 5) (eqb (readNumber c m w samples (length records)) 0) (λ t. omega arith) (λ t. most)
 
--- how many records a piece leaves
-pub records-within : (m : List ℕ) (w : World) (samples records : List ℕ) {number count : ℕ} {after : World} {left : List ℕ}
-    → outcome number after count left ≡ readOf m w samples records → length records ≡ recordSpace → recordSize * count ≤ recordSpace
-records-within m w samples records {count = count} e full =
-    let counted : count ≡ readOf m w samples records .count = ap (λ (o : Outcome). o .count) e in
-    omega (arith, within-room m w samples records)
+  module _ {number count : ℕ} {after : World} {left : List ℕ} (e : outcome number after count left ≡ readOf c m w samples records) (full : length records ≡ recordSpace) where
+    -- how many records a piece leaves
+    pub records-within : recordSize * count ≤ recordSpace
+    records-within =
+        let counted : count ≡ readOf c m w samples records .count = ap (λ (o : Outcome). o .count) e in
+        omega (arith, within-room c m w samples records)
 
--- there are no more records than samples: a piece of 4,096 samples leaves 1,366 at most
-pub fewer-records : (count : ℕ) {got records samples : ℕ} → recordSize * count ≤ recordSpace → piece ≤ got → records ≤ samples → records + count ≤ samples + got
-fewer-records count few full h = omega arith
+    -- with which number a piece is refused
+    pub piece-told : topFits c m ≡ true → length samples ≤ piece → number ≤ 5
+    piece-told top few =
+        let told : number ≡ readOf c m w samples records .number = ap (λ (o : Outcome). o .number) e in
+        omega (arith, read-told top few (omega arith))
 
--- no more of them ask for slow than there are
-pub slow-within : {n count : ℕ} (l : List ℕ) → n ≡ slowOf (take (recordSize * count) l) → recordSize * count ≤ recordSpace → length l ≡ recordSpace → n ≤ count
-slow-within {count = count} l e few full =
-    let part = take (recordSize * count) l in
-    omega (arith, slow-most (length part / recordSize) part, length-take-le (recordSize * count) l (omega arith))
+-- There are no more records than samples, and no more of them ask for slow than there are.
+pub record Counts (t : Tally) : Type 0 where
+  pub few-records : t .records ≤ t .samples
+  pub few-slow : t .slow ≤ t .records
 
-pub fewer-slow : {n count slow records : ℕ} → n ≤ count → slow ≤ records → slow + n ≤ records + count
-fewer-slow few h = omega arith
+pub counts-nothing : {t : Tally} → t ≡ nothingRead → Counts t
+counts-nothing e = rw e (record { few-records = omega arith; few-slow = omega arith })
 
--- what is known of a piece before it is written
-pub piece-bounds : (m : List ℕ) (w : World) (samples records : List ℕ) {number count : ℕ} {after : World} {left : List ℕ}
-    → outcome number after count left ≡ readOf m w samples records
-    → length samples ≤ piece
-    → length records ≡ recordSpace
-    → (number ≤ 5) × (recordSize * count ≤ recordSpace)
-piece-bounds m w samples records {number} e few full =
-    let told : number ≡ readOf m w samples records .number = ap (λ (o : Outcome). o .number) e in
-    (omega (arith, read-told m w samples records few (omega arith)), records-within m w samples records e full)
+-- a piece of the samples, which are not yet too many to count
+module _ (t : Tally) (samples : List ℕ) {got : ℕ} (within : got ≤ length samples) where
+  module _ (h : t .samples < 0xFFFF_FFFF_FFFF_FFFF - piece) where
+    pub samples-countable : got ≤ piece → t .samples + length (take got samples) < 2 ^ 64
+    samples-countable few = rw (length-take-le got samples within) (omega arith)
+
+    -- a whole one leaves fewer to come
+    pub fewer-left : (records : List ℕ) {next : Tally} → next ≡ countedOf t (take got samples) records → piece ≤ got
+        → 0xFFFF_FFFF_FFFF_FFFF - next .samples < 0xFFFF_FFFF_FFFF_FFFF - t .samples
+    unfolding countedOf
+    fewer-left records e whole = rw (e, length-take-le got samples within) (omega arith)
+
+  -- its records
+  module _ (k : Counts t) (records : List ℕ) {size : ℕ} (few-bytes : size ≤ recordSpace) (in-buffer : size ≤ length records) where
+    pub countable : t .samples < 0xFFFF_FFFF_FFFF_FFFF - piece → got ≤ piece → Room t (take got samples) (take size records)
+    countable h few = record {
+      more-records = rw (length-take-le size records in-buffer) (omega (arith, k .few-records));
+      more-samples = samples-countable h few;
+      more-slow = rw (length-take-le size records in-buffer) (omega (arith, k .few-records, k .few-slow));
+    }
+
+    -- 4,096 samples leave 1,366 records at most
+    pub counts-more : {next : Tally} → next ≡ countedOf t (take got samples) (take size records) → piece ≤ got → Counts next
+    unfolding countedOf
+    counts-more e whole =
+        let part = take size records in
+        rw e
+        (record {
+          few-records = rw (length-take-le got samples within, length-take-le size records in-buffer) (omega (arith, k .few-records));
+          few-slow = omega (arith, k .few-slow, slow-most (length part / recordSize) part);
+        })
+
+-- What holds whenever a piece is about to be read: the banks and buffers are as long as they were lent, and the counts are in order.
+pub record Reading (active₀ buffer₀ active buffer samples records : List ℕ) (t : Tally) : Type 0 where
+  pub same-active : length active ≡ length active₀
+  pub same-buffer : length buffer ≡ length buffer₀
+  pub samples-room : length samples ≡ piece
+  pub records-room : length records ≡ recordSpace
+  pub counts : Counts t

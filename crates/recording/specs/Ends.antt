@@ -4,7 +4,8 @@ use Prim.Native.Nat.{ℕ, _<_, _≤_}
 use Rattle.recording.specs.declared.End.{End}
 use Rattle.recording.specs.declared.End.the-variants.{Done, Refused, MapFailed, SamplesFailed, OutputFailed}
 
--- a refusal has one of document 01's numbers for the reader, but for 6: the records of a piece have room
+-- a refusal has one of document 01's numbers for the reader, but for 6, since the records of a piece have room; nor is it 12 (document
+-- 02, Ask 1), since the top is taken from the map
 abbrev pub Known : End → Type 0
 Known Done = Unit {0}
 Known (Refused number) = (0 < number) × (number ≤ 5)

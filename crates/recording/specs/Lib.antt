@@ -1,4 +1,6 @@
 pub mod Bounds
 pub mod Ends
+pub mod Families
 pub mod Glance
 pub mod Sizes
+pub mod Tally

@@ -6,28 +6,39 @@
 //
 // The buffers, with those of the calls, are at most 64,289 bytes together.
 ghost use mathlib.Core.Path.{_≡_};
-ghost use Prim.Native.Nat.{_<_, _≤_, min};
+ghost use mathlib.Core.Bool.{true};
+ghost use Prim.Native.Nat.{_<_, _≤_, _-_, min};
 ghost use Rattle.regmap.specs.Format.{countOf, mostCount};
-ghost use Rattle.maptest.specs.MapTest.{mapNumber};
-ghost use Rattle.recording.specs.Ends.{Known, Told, codeOf, numberOf};
+ghost use Rattle.maptest.specs.MapTest.{mapNumber, topFits};
+ghost use Rattle.recording.specs.Ends.{Known};
+ghost use Rattle.recording.specs.Families.{chipOf};
 
 mod glance;
+mod host;
 mod input;
 mod output;
+mod tally;
 
-use glance::Seen;
+use chip::Chip;
+use chip::Part;
 use input::Filled;
 use input::MAP_SPACE;
-use records::count_slow;
 use regmap::MOST_COUNT;
 use session::Session;
 use sizes::RECORD;
+use tally::Tally;
 
 // The samples of a piece.
 const PIECE: usize = 4096;
 
 // The bytes for the records of a piece.
 const RECORD_SPACE: usize = 9562;
+
+// What a recording is of: a newer chip, or an older part, whose highest address its map tells.
+pub enum Family {
+    Newer,
+    Older(Part),
+}
 
 // How a reading ends. A file that failed has left its reason in the system's errno.
 pub enum End {
@@ -48,30 +59,24 @@ pub struct Reading {
     pub rose: bool,
 }
 
+// A reading that ended after so much of the recording.
+fn ended(end: End, tally: Tally) -> Reading
+    ensures { λ r. ⌜ r .end ≡ end ⌝ }
+{
+    Reading {
+        end: end,
+        records: tally.records,
+        samples: tally.samples,
+        fell: tally.seen.fell,
+        rose: tally.seen.rose,
+    }
+}
+
 // A reading that ended before its first sample.
 fn unread(end: End) -> Reading
     ensures { λ r. ⌜ r .end ≡ end ⌝ }
 {
-    Reading {
-        end: end,
-        records: 0,
-        samples: 0,
-        fell: false,
-        rose: false,
-    }
-}
-
-// A reading that ended after so many records and samples.
-fn ended(end: End, records: u64, samples: u64, seen: Seen) -> Reading
-    ensures { λ r. ⌜ r .end ≡ end ⌝ }
-{
-    Reading {
-        end: end,
-        records: records,
-        samples: samples,
-        fell: seen.fell,
-        rose: seen.rose,
-    }
+    ended(end, tally::nothing_read())
 }
 
 // The end of a reading that is refused, once the line of it is written.
@@ -86,10 +91,10 @@ fn refuse(to: i32, number: u8) -> End
 }
 
 // The end of a reading that has come to its last sample, once the line of it is written.
-fn close(to: i32, records: u64, samples: u64, slow: u64) -> End
+fn close(chip: Chip, to: i32, tally: Tally) -> End
     ensures { λ r. ⌜ Known r ⌝ }
 {
-    if output::write_count_line(to, records, samples, slow) {
+    if output::write_count_line(chip, to, tally) {
         return End::Done;
     }
     End::OutputFailed
@@ -98,6 +103,7 @@ fn close(to: i32, records: u64, samples: u64, slow: u64) -> End
 // Reads the samples to their end, 4,096 at a time, on a map that opening has tested. A loop has to end by itself: this one would
 // before 2 ^ 64 samples.
 fn read_trace(
+    chip: Chip,
     map: &[u8],
     mut session: Session,
     active: &mut [u8],
@@ -105,54 +111,78 @@ fn read_trace(
     from: i32,
     to: i32,
 ) -> Reading
-    requires { ⌜ mapNumber (now map) ≡ 0 ⌝ }
+    requires { ⌜ (mapNumber chip (now map) ≡ 0) × (topFits chip (now map) ≡ true) ⌝ }
     ensures { λ r. ⌜ Known (r .end) ⌝ }
 {
     let mut samples = [0u8; PIECE];
     let mut records = [0u8; RECORD_SPACE];
-    let mut record_count: u64 = 0;
-    let mut sample_count: u64 = 0;
-    let mut slow_count: u64 = 0;
-    let mut seen = glance::nothing_seen();
-    while sample_count < u64::MAX - PIECE as u64 {
+    let mut tally = tally::nothing_read();
+    while tally.samples < u64::MAX - PIECE as u64 {
         let Filled::Bytes(got) = input::fill(from, &mut samples, 0, PIECE) else {
-            return ended(End::SamplesFailed, record_count, sample_count, seen);
+            return ended(End::SamplesFailed, tally);
         };
         let piece = &samples[..got];
-        let answer = reader::read_tested(map, session, active, buffer, piece, &mut records);
+        let answer = reader::read_tested(chip, map, session, active, buffer, piece, &mut records);
         let number = answer.number;
-        let count = answer.count;
         if number != 0 {
-            let bad = sample_count + glance::good_before(piece) as u64;
-            return ended(refuse(to, number), record_count, bad, seen);
+            return ended(refuse(to, number), tally::up_to_bad(tally, piece));
         }
-        if !output::write_lines(to, &records, RECORD * count) {
-            return ended(End::OutputFailed, record_count, sample_count, seen);
+        let size = RECORD * answer.count;
+        if !output::write_lines(to, &records, size) {
+            return ended(End::OutputFailed, tally);
         }
-        seen = glance::look(seen, piece);
-        record_count += count as u64;
-        sample_count += got as u64;
-        slow_count += count_slow(&records[..RECORD * count]) as u64;
+        tally = tally::counted(tally, piece, &records[..size]);
         if got < PIECE {
-            let end = close(to, record_count, sample_count, slow_count);
-            return ended(end, record_count, sample_count, seen);
+            return ended(close(chip, to, tally), tally);
         }
         session = answer.session;
     }
-    ended(End::SamplesFailed, record_count, sample_count, seen)
+    ended(End::SamplesFailed, tally)
+}
+
+// The last address of a map, n less 1. One without registers is refused, whatever this is.
+fn last_address(map: &[u8]) -> u64
+    ensures { λ r. ⌜ r ≡ countOf (now (map .entry)) - 1 ⌝ }
+{
+    let n = regmap::count(map);
+    if n == 0 {
+        return 0;
+    }
+    n as u64 - 1
+}
+
+// The chip that a map is for.
+fn chip_of(family: Family, map: &[u8]) -> Chip
+    ensures { λ r. ⌜ r ≡ chipOf family (now (map .entry)) ⌝ }
+{
+    match family {
+        Family::Newer => Chip::Newer,
+        Family::Older(part) => Chip::Older {
+            part: part,
+            top: last_address(map),
+        },
+    }
 }
 
 // Opens the map and reads the samples after it. A refused map prints nothing else.
-fn read_opened(map: &[u8], active: &mut [u8], buffer: &mut [u8], from: i32, to: i32) -> Reading
+fn read_opened(
+    family: Family,
+    map: &[u8],
+    active: &mut [u8],
+    buffer: &mut [u8],
+    from: i32,
+    to: i32,
+) -> Reading
     ensures { λ r. ⌜ Known (r .end) ⌝ }
 {
-    let opened = reader::open(map, active, buffer);
+    let chip = chip_of(family, map);
+    let opened = reader::open_on(chip, map, active, buffer);
     let refused = opened.number;
     if refused != 0 {
         return unread(refuse(to, refused));
     }
     if output::write_map_line(to, regmap::count(map)) {
-        return read_trace(map, opened.session, active, buffer, from, to);
+        return read_trace(chip, map, opened.session, active, buffer, from, to);
     }
     unread(End::OutputFailed)
 }
@@ -170,7 +200,7 @@ fn bank_size(map: &[u8]) -> usize
 }
 
 // Reads the recording in two open files, or in one that holds the samples after the map, and writes to a third.
-pub fn read_recording(map_file: i32, samples_file: i32, to: i32) -> Reading
+fn read_files(family: Family, map_file: i32, samples_file: i32, to: i32) -> Reading
     ensures { λ r. ⌜ Known (r .end) ⌝ }
 {
     let mut map = [0u8; MAP_SPACE];
@@ -181,53 +211,26 @@ pub fn read_recording(map_file: i32, samples_file: i32, to: i32) -> Reading
     };
     let given = &map[..length];
     let n = bank_size(given);
-    read_opened(given, &mut active[..n], &mut buffer[..n], samples_file, to)
+    read_opened(
+        family,
+        given,
+        &mut active[..n],
+        &mut buffer[..n],
+        samples_file,
+        to,
+    )
 }
 
-// How a reading ended, as a host is told.
-fn code_of(end: End) -> u32
-    ensures { λ r. ⌜ r ≡ codeOf end ⌝ }
+// Reads the recording of a newer chip.
+pub fn read_recording(map_file: i32, samples_file: i32, to: i32) -> Reading
+    ensures { λ r. ⌜ Known (r .end) ⌝ }
 {
-    match end {
-        End::Done => 0,
-        End::Refused(_) => 1,
-        End::MapFailed => 2,
-        End::SamplesFailed => 3,
-        End::OutputFailed => 4,
-    }
+    read_files(Family::Newer, map_file, samples_file, to)
 }
 
-// The number of a refusal, else 0.
-fn number_of(end: End) -> u8
-    ensures { λ r. ⌜ r ≡ numberOf end ⌝ }
+// Reads the recording of an older part.
+pub fn read_older_recording(part: Part, map_file: i32, samples_file: i32, to: i32) -> Reading
+    ensures { λ r. ⌜ Known (r .end) ⌝ }
 {
-    match end {
-        End::Done => 0,
-        End::Refused(number) => number,
-        End::MapFailed => 0,
-        End::SamplesFailed => 0,
-        End::OutputFailed => 0,
-    }
-}
-
-// `read_recording` for a host in C, which has an exit status: how it ended, and through the pointers what else is told.
-#[no_mangle]
-pub extern "C" fn couplingnut_read_recording(
-    map_file: i32,
-    samples_file: i32,
-    to: i32,
-    number: &mut u64,
-    samples: &mut u64,
-    fell: &mut u64,
-    rose: &mut u64,
-) -> u32
-    ensures { λ r. ⌜ Told r (now (number .exit)) ⌝ }
-{
-    let reading = read_recording(map_file, samples_file, to);
-    let end = reading.end;
-    *number = number_of(end) as u64;
-    *samples = reading.samples;
-    *fell = reading.fell as u64;
-    *rose = reading.rose as u64;
-    code_of(end)
+    read_files(Family::Older(part), map_file, samples_file, to)
 }

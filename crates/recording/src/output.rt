@@ -1,8 +1,14 @@
 // What goes to an open file: the lines of document 01's text. Each call answers whether it went out.
 ghost use Prim.Native.Nat.{_≤_};
 ghost use lib.ListN.{length};
+ghost use Rattle.report.specs.Put.{Printed};
+ghost use Rattle.recording.specs.Tally.{lastLine};
+use crate::tally::Tally;
+use chip::Chip;
 use lines::LINE;
 use report::LAST_LINE;
+use report::put_count_line;
+use report::put_older_count_line;
 use sizes::RECORD;
 
 // The bytes for the lines that are written at a time, which are 300.
@@ -15,14 +21,24 @@ pub fn write_map_line(to: i32, n: usize) -> bool {
     io::write_all(to, &line[..count])
 }
 
+// Puts the last line into a buffer; how many bytes it is. An older part has no slow setting, so its line does not count it.
+fn put_last_line(chip: Chip, tally: Tally, line: &mut [u8; LAST_LINE]) -> usize
+    ensures { λ r. ⌜ Printed (lastLine chip tally) (now (line .entry)) (now (line .exit)) r ⌝ }
+{
+    match chip {
+        Chip::Newer => put_count_line(tally.records, tally.samples, tally.slow, line),
+        Chip::Older { part: _, top: _ } => put_older_count_line(tally.records, tally.samples, line),
+    }
+}
+
 // Writes the last line.
-pub fn write_count_line(to: i32, records: u64, samples: u64, slow: u64) -> bool {
+pub fn write_count_line(chip: Chip, to: i32, tally: Tally) -> bool {
     let mut line = [0u8; LAST_LINE];
-    let count = report::put_count_line(records, samples, slow, &mut line);
+    let count = put_last_line(chip, tally, &mut line);
     io::write_all(to, &line[..count])
 }
 
-// Writes the line of a refusal. Number 6 is never among them: the records of a piece have room.
+// Writes the line of a refusal. Neither 6 is among them, since the records of a piece have room, nor 12: the top is the map's.
 pub fn write_refused_line(to: i32, number: u8) -> bool
     requires { ⌜ number ≤ 5 ⌝ }
 {

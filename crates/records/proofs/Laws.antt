@@ -5,6 +5,7 @@ use Prim.Native.Nat.{ℕ, _+_, _*_}
 use lib.ListN.{length}
 use Rattle.bits.proofs.Cases.{each}
 use Rattle.sizes.specs.Sizes.{recordSize}
+use Rattle.chip.specs.declared.Chip.{Chip}
 use Rattle.settings.specs.declared.Settings.{Settings}
 use Rattle.session.specs.declared.Event.{Event}
 use Rattle.session.specs.declared.Event.the-variants.{Nothing, Whole, Aborted}
@@ -15,20 +16,20 @@ use Rattle.records.specs.Records.{recordOf, recordsIn}
 use Rattle.records.specs.Contracts.{Taken}
 
 -- an event keeps the sizes of the banks
-pub mapped-after : (m : List ℕ) (b : Banks) (e : Event) → Mapped m b → Mapped m (banksAfter m b e)
+pub mapped-after : (c : Chip) (m : List ℕ) (b : Banks) (e : Event) → Mapped m b → Mapped m (banksAfter c m b e)
 unfolding banksAfter
-mapped-after m b Nothing h = h
-mapped-after m b (Whole read a v) h = each (Mapped m) read (λ e. h) (λ e. mapped-write h a v)
-mapped-after m b (Aborted a bits d) h = h
+mapped-after c m b Nothing h = h
+mapped-after c m b (Whole read a v) h = each (Mapped m) read (λ e. h) (λ e. mapped-write h c a v)
+mapped-after c m b (Aborted a bits d) h = h
 
 -- how many bytes the records of an event have
-pub record-size : (m : List ℕ) (b : Banks) (t : Settings) (e : Event) → length (recordOf m b t e) ≡ recordSize * recordsIn e
+pub record-size : (c : Chip) (m : List ℕ) (b : Banks) (t : Settings) (e : Event) → length (recordOf c m b t e) ≡ recordSize * recordsIn e
 unfolding recordOf
-record-size m b t Nothing = refl
-record-size m b t (Whole read a v) = each (λ (l : List ℕ). length l ≡ recordSize) read (λ e. refl) (λ e. refl)
-record-size m b t (Aborted a bits d) = refl
+record-size c m b t Nothing = refl
+record-size c m b t (Whole read a v) = each (λ (l : List ℕ). length l ≡ recordSize) read (λ e. refl) (λ e. refl)
+record-size c m b t (Aborted a bits d) = refl
 
 -- so the place after an event that is taken is known without its record
-pub place-after : {m : List ℕ} {b : Banks} {t : Settings} {e : Event} {old : List ℕ} {at : ℕ} {after : Banks} {new : List ℕ} {next : ℕ}
-    → Taken m b t e old at after new next → next ≡ at + recordSize * recordsIn e
-place-after {m} {b} {t} {e} {at = at} a = a .next-place ∙ ap (λ (n : ℕ). at + n) (record-size m b t e)
+pub place-after : {c : Chip} {m : List ℕ} {b : Banks} {t : Settings} {e : Event} {old : List ℕ} {at : ℕ} {after : Banks} {new : List ℕ} {next : ℕ}
+    → Taken c m b t e old at after new next → next ≡ at + recordSize * recordsIn e
+place-after {c} {m} {b} {t} {e} {at = at} a = a .next-place ∙ ap (λ (n : ℕ). at + n) (record-size c m b t e)

@@ -8,6 +8,7 @@ use native.Mathlib.Nat.{add-zero}
 use lib.ListN.{length}
 use lib.Seq.{sets}
 use Rattle.sizes.specs.Sizes.{recordSize}
+use Rattle.chip.specs.declared.Chip.{Chip}
 use Rattle.settings.specs.declared.Settings.{Settings}
 use Rattle.session.specs.declared.Event.{Event}
 use Rattle.session.specs.declared.Event.the-variants.{Nothing, Whole, Aborted}
@@ -21,24 +22,24 @@ use Rattle.records.specs.Contracts.{Taking, Taken}
 use Rattle.records.proofs.Laws.{record-size}
 
 -- the record of an event that gives one has room
-pub room-for : {m : List ℕ} {b : Banks} {t : Settings} {e : Event} {old : List ℕ} {at : ℕ} → Taking m b t e old at → recordsIn e ≡ 1
+pub room-for : {c : Chip} {m : List ℕ} {b : Banks} {t : Settings} {e : Event} {old : List ℕ} {at : ℕ} → Taking c m b t e old at → recordsIn e ≡ 1
     → at + recordSize ≤ length old
-room-for {m} {b} {t} {e} k one = omega (arith, record-size m b t e, k .room)
+room-for {c} {m} {b} {t} {e} k one = omega (arith, record-size c m b t e, k .room)
 
-module _ {m : List ℕ} {b : Banks} {t : Settings} {e : Event} {old : List ℕ} {at : ℕ} where
-  pub took-nothing : e ≡ Nothing → Taken m b t e old at b old at
+module _ {c : Chip} {m : List ℕ} {b : Banks} {t : Settings} {e : Event} {old : List ℕ} {at : ℕ} where
+  pub took-nothing : e ≡ Nothing → Taken c m b t e old at b old at
   unfolding banksAfter recordOf
   took-nothing ee = rw ee (record { banks-after = refl; records-after = refl; next-place = sym (add-zero at) })
 
-  pub took-read : {read : Bool} {a v due : ℕ} {new : List ℕ} → e ≡ Whole read a v → read ≡ true → due ≡ dueByte m b t a
-      → new ≡ sets old at (readRecord a due v) → Taken m b t e old at b new (at + recordSize)
+  pub took-read : {read : Bool} {a v due : ℕ} {new : List ℕ} → e ≡ Whole read a v → read ≡ true → due ≡ dueByte c m b t a
+      → new ≡ sets old at (readRecord a due v) → Taken c m b t e old at b new (at + recordSize)
   unfolding banksAfter recordOf
   took-read {a = a} {v} ee er ed en =
       rw (ee, er)
       (record { banks-after = refl; records-after = en ∙ ap (λ (d : ℕ). sets old at (readRecord a d v)) ed; next-place = refl })
 
   pub took-write : {read : Bool} {a v : ℕ} {w : Written} {after : Banks} {new : List ℕ} → e ≡ Whole read a v → read ≡ false
-      → Wrote m b t a v w after → new ≡ sets old at (writeRecord a v w) → Taken m b t e old at after new (at + recordSize)
+      → Wrote c m b t a v w after → new ≡ sets old at (writeRecord a v w) → Taken c m b t e old at after new (at + recordSize)
   unfolding banksAfter recordOf
   took-write {a = a} {v} ee er k en =
       rw (ee, er)
@@ -49,6 +50,6 @@ module _ {m : List ℕ} {b : Banks} {t : Settings} {e : Event} {old : List ℕ} 
       })
 
   pub took-abort : {a bits : ℕ} {d : Bool} {new : List ℕ} → e ≡ Aborted a bits d → new ≡ sets old at (abortRecord a bits d)
-      → Taken m b t e old at b new (at + recordSize)
+      → Taken c m b t e old at b new (at + recordSize)
   unfolding banksAfter recordOf
   took-abort ee en = rw ee (record { banks-after = refl; records-after = en; next-place = refl })

@@ -4,6 +4,7 @@ use mathlib.Core.Path.{_≡_}
 use mathlib.Core.List.{List}
 use lib.ListN.{length}
 use lib.Seq.{sets}
+use Rattle.chip.specs.declared.Chip.{Chip}
 use Rattle.settings.specs.declared.Settings.{Settings}
 use Rattle.session.specs.declared.Event.{Event}
 use Rattle.registers.specs.Banks.{Banks, Mapped}
@@ -11,12 +12,12 @@ use Rattle.records.specs.BanksAfter.{banksAfter}
 use Rattle.records.specs.Records.{recordOf}
 
 -- before an event is taken: the map fits the banks, and there is room for the record
-pub record Taking (m : List ℕ) (b : Banks) (t : Settings) (e : Event) (old : List ℕ) (at : ℕ) : Type 0 where
+pub record Taking (c : Chip) (m : List ℕ) (b : Banks) (t : Settings) (e : Event) (old : List ℕ) (at : ℕ) : Type 0 where
   pub mapped : Mapped m b
-  pub room : at + length (recordOf m b t e) ≤ length old
+  pub room : at + length (recordOf c m b t e) ≤ length old
 
 -- after it: both banks, the record in its place, and the place after it
-pub record Taken (m : List ℕ) (b : Banks) (t : Settings) (e : Event) (old : List ℕ) (at : ℕ) (after : Banks) (new : List ℕ) (next : ℕ) : Type 0 where
-  pub banks-after : after ≡ banksAfter m b e
-  pub records-after : new ≡ sets old at (recordOf m b t e)
-  pub next-place : next ≡ at + length (recordOf m b t e)
+pub record Taken (c : Chip) (m : List ℕ) (b : Banks) (t : Settings) (e : Event) (old : List ℕ) (at : ℕ) (after : Banks) (new : List ℕ) (next : ℕ) : Type 0 where
+  pub banks-after : after ≡ banksAfter c m b e
+  pub records-after : new ≡ sets old at (recordOf c m b t e)
+  pub next-place : next ≡ at + length (recordOf c m b t e)

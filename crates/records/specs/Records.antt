@@ -4,6 +4,7 @@ use mathlib.Core.Bool.{Bool, cond}
 use mathlib.Core.List.{List, [], _∷_, _++_}
 use lib.Dec.{eqb}
 use Rattle.bits.specs.Bytes.{wordBytes}
+use Rattle.chip.specs.declared.Chip.{Chip}
 use Rattle.settings.specs.declared.Settings.{Settings}
 use Rattle.session.specs.declared.Event.{Event}
 use Rattle.session.specs.declared.Event.the-variants.{Nothing, Whole, Aborted}
@@ -29,10 +30,10 @@ abbrev pub abortRecord : ℕ → ℕ → Bool → List ℕ
 abortRecord a bits inData = recordBytes 3 a bits (cond inData 1 0) 0 0
 
 -- the record of an event, by the banks and settings before it
-unfoldable pub recordOf : List ℕ → Banks → Settings → Event → List ℕ
-recordOf m b t Nothing = []
-recordOf m b t (Whole read a v) = cond read (readRecord a (dueByte m b t a) v) (writeRecord a v (writtenOf m b t a v))
-recordOf m b t (Aborted a bits inData) = abortRecord a bits inData
+unfoldable pub recordOf : Chip → List ℕ → Banks → Settings → Event → List ℕ
+recordOf c m b t Nothing = []
+recordOf c m b t (Whole read a v) = cond read (readRecord a (dueByte c m b t a) v) (writeRecord a v (writtenOf c m b t a v))
+recordOf c m b t (Aborted a bits inData) = abortRecord a bits inData
 
 -- how many records an event gives
 abbrev pub recordsIn : Event → ℕ

@@ -10,6 +10,7 @@ ghost use Rattle.records.specs.Contracts.{Taking, Taken};
 
 mod slow;
 
+use chip::Chip;
 use session::Event;
 use settings::Settings;
 use sizes::RECORD;
@@ -107,6 +108,7 @@ fn put_abort(records: &mut [u8], at: usize, address: u16, bits: u8, in_data: boo
 
 // Does what an event does to the banks, and puts its record at a place; the place after it.
 pub fn take_event(
+    chip: Chip,
     map: &[u8],
     active: &mut [u8],
     buffer: &mut [u8],
@@ -115,8 +117,8 @@ pub fn take_event(
     records: &mut [u8],
     at: usize,
 ) -> usize
-    requires { ⌜ Taking (now map) (banks (now active) (now buffer)) settings event (now records) at ⌝ }
-    ensures { λ r. ⌜ Taken (now (map .entry)) (banks (now (active .entry)) (now (buffer .entry))) settings event (now (records .entry)) at (banks (now (active .exit)) (now (buffer .exit))) (now (records .exit)) r ⌝ }
+    requires { ⌜ Taking chip (now map) (banks (now active) (now buffer)) settings event (now records) at ⌝ }
+    ensures { λ r. ⌜ Taken chip (now (map .entry)) (banks (now (active .entry)) (now (buffer .entry))) settings event (now (records .entry)) at (banks (now (active .exit)) (now (buffer .exit))) (now (records .exit)) r ⌝ }
 {
     match event {
         Event::Nothing => at,
@@ -126,11 +128,11 @@ pub fn take_event(
             byte,
         } => {
             if read {
-                let due = registers::due_byte(map, active, buffer, settings, address);
+                let due = registers::due_byte(chip, map, active, buffer, settings, address);
                 put_read(records, at, address, due, byte);
                 return at + RECORD;
             }
-            let written = writing::write(map, active, buffer, settings, address, byte);
+            let written = writing::write(chip, map, active, buffer, settings, address, byte);
             put_write(records, at, address, byte, written);
             at + RECORD
         }

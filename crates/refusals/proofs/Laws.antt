@@ -12,7 +12,8 @@ use Rattle.bits.specs.Tests.{unless}
 use Rattle.bits.proofs.Cases.{yes, no, and-left, and-right}
 use Rattle.sizes.specs.Sizes.{recordSize}
 use Rattle.regmap.specs.Format.{countOf}
-use Rattle.maptest.specs.MapTest.{mapNumber}
+use Rattle.chip.specs.declared.Chip.{Chip}
+use Rattle.maptest.specs.MapTest.{mapNumber, topFits}
 use Rattle.maptest.proofs.Laws.{map-number-most}
 use Rattle.session.specs.State.{soundSession}
 use Rattle.registers.specs.Banks.{Banks, Mapped}
@@ -32,21 +33,31 @@ passed-map k next e = go (eqb k 0) refl e
     go true t e = (eqb-true k 0 t, e)
     go false t e = absurd (false≢true (sym t ∙ eq-eqb k 0 e))
 
-refused-first : (k : ℕ) (fits : Bool) (next : ℕ) → unless (eqb k 0) k (unless fits 4 0) ≢ 0
-    → unless (eqb k 0) k (unless fits 4 0) ≡ unless (eqb k 0) k (unless fits 4 next)
-refused-first k fits next n = go (eqb k 0) fits n
+-- refused before the samples are looked at, whatever comes after
+refused-first : (k : ℕ) (fits top : Bool) (next : ℕ) → unless (eqb k 0) k (unless fits 4 (unless top 12 0)) ≢ 0
+    → unless (eqb k 0) k (unless fits 4 (unless top 12 0)) ≡ unless (eqb k 0) k (unless fits 4 (unless top 12 next))
+refused-first k fits top next n = go (eqb k 0) fits top n
   where
-    go : (z f : Bool) → unless z k (unless f 4 0) ≢ 0 → unless z k (unless f 4 0) ≡ unless z k (unless f 4 next)
-    go true true n = absurd (n refl)
-    go true false n = refl
-    go false f n = refl
+    go : (z f t : Bool) → unless z k (unless f 4 (unless t 12 0)) ≢ 0
+        → unless z k (unless f 4 (unless t 12 0)) ≡ unless z k (unless f 4 (unless t 12 next))
+    go true true true n = absurd (n refl)
+    go true true false n = refl
+    go true false t n = refl
+    go false f t n = refl
 
--- a good map with banks of n bytes
-pub opens : (m : List ℕ) (b : Banks) → openNumber m b ≡ 0 → (mapNumber m ≡ 0) × (banksFit m b ≡ true)
+-- what number 0 of opening says: each of its tests holds
+pub record OpenTests (c : Chip) (m : List ℕ) (b : Banks) : Type 0 where
+  pub good-map : mapNumber c m ≡ 0
+  pub fits : banksFit m b ≡ true
+  pub top : topFits c m ≡ true
+
+pub opens : (c : Chip) (m : List ℕ) (b : Banks) → openNumber c m b ≡ 0 → OpenTests c m b
 unfolding openNumber
-opens m b e =
-    let t = passed-map (mapNumber m) _ e in
-    (t .0, passed (banksFit m b) 4 0 (λ q. omega arith) (t .1) .0)
+opens c m b e =
+    let two = passed-map (mapNumber c m) _ e in
+    let four = passed (banksFit m b) 4 _ (λ q. omega arith) (two .1) in
+    let twelve = passed (topFits c m) 12 0 (λ q. omega arith) (four .1) in
+    record { good-map = two .0; fits = four .0; top = twelve .0 }
 
 pub fits-mapped : (m : List ℕ) (b : Banks) → banksFit m b ≡ true → Mapped m b
 fits-mapped m b f =
@@ -62,99 +73,105 @@ bounded : {most : ℕ} (t : Bool) {n next : ℕ} → n ≤ most → (t ≡ true 
 bounded true h rest = rest refl
 bounded false h rest = h
 
-pub open-number-most : (m : List ℕ) (b : Banks) → openNumber m b ≤ 4
-unfolding openNumber
-open-number-most m b =
-    bounded (eqb (mapNumber m) 0) (omega (arith, map-number-most m))
-    (λ t. bounded (banksFit m b) (omega arith)
-    (λ t. omega arith))
+-- where the top is that of the map, number 12 is not given
+module _ (c : Chip) (m : List ℕ) (top : mapNumber c m ≡ 0 → topFits c m ≡ true) where
+  pub open-number-most : (b : Banks) → openNumber c m b ≤ 4
+  unfolding openNumber
+  open-number-most b =
+      bounded (eqb (mapNumber c m) 0) (omega (arith, map-number-most c m))
+      (λ t. bounded (banksFit m b) (omega arith)
+      (λ u. rw (top (eqb-true (mapNumber c m) 0 t)) (omega arith)))
 
--- where the room suffices, number 6 is not given
-pub read-number-most : (m : List ℕ) (w : World) (xs : List ℕ) (room : ℕ) → recordSize * recordCount (w .session) xs ≤ room → readNumber m w xs room ≤ 5
-unfolding readNumber
-read-number-most m w xs room enough =
-    bounded (soundSession (w .session)) (omega arith)
-    (λ t. bounded (eqb (mapNumber m) 0) (omega (arith, map-number-most m))
-    (λ t. bounded (banksFit m (w .banks)) (omega arith)
-    (λ t. bounded (leb (length xs) 65536 && samplesGood xs) (omega arith)
-    (λ t. rw (le-leb (recordSize * recordCount (w .session) xs) room enough) (omega arith)))))
+  -- where the room suffices, neither is 6
+  pub read-number-most : (w : World) (xs : List ℕ) (room : ℕ) → recordSize * recordCount c (w .session) xs ≤ room → readNumber c m w xs room ≤ 5
+  unfolding readNumber
+  read-number-most w xs room enough =
+      bounded (soundSession c (w .session)) (omega arith)
+      (λ s. bounded (eqb (mapNumber c m) 0) (omega (arith, map-number-most c m))
+      (λ t. bounded (banksFit m (w .banks)) (omega arith)
+      (λ u. rw (top (eqb-true (mapNumber c m) 0 t))
+      (bounded (leb (length xs) 65536 && samplesGood xs) (omega arith)
+      (λ v. rw (le-leb (recordSize * recordCount c (w .session) xs) room enough) (omega arith))))))
 
 -- what number 0 says: each test of the reader holds
-pub record ReadTests (m : List ℕ) (w : World) (xs : List ℕ) (room : ℕ) : Type 0 where
-  pub sound : soundSession (w .session) ≡ true
-  pub good-map : mapNumber m ≡ 0
+pub record ReadTests (c : Chip) (m : List ℕ) (w : World) (xs : List ℕ) (room : ℕ) : Type 0 where
+  pub sound : soundSession c (w .session) ≡ true
+  pub good-map : mapNumber c m ≡ 0
   pub fits : banksFit m (w .banks) ≡ true
+  pub top : topFits c m ≡ true
   pub samples : (leb (length xs) 65536 && samplesGood xs) ≡ true
-  pub enough : leb (recordSize * recordCount (w .session) xs) room ≡ true
+  pub enough : leb (recordSize * recordCount c (w .session) xs) room ≡ true
 
-pub read-tests : (m : List ℕ) (w : World) (xs : List ℕ) (room : ℕ) → readNumber m w xs room ≡ 0 → ReadTests m w xs room
+pub read-tests : (c : Chip) (m : List ℕ) (w : World) (xs : List ℕ) (room : ℕ) → readNumber c m w xs room ≡ 0 → ReadTests c m w xs room
 unfolding readNumber
-read-tests m w xs room e =
-    let one = passed (soundSession (w .session)) 1 _ (λ q. omega arith) e in
-    let two = passed-map (mapNumber m) _ (one .1) in
+read-tests c m w xs room e =
+    let one = passed (soundSession c (w .session)) 1 _ (λ q. omega arith) e in
+    let two = passed-map (mapNumber c m) _ (one .1) in
     let four = passed (banksFit m (w .banks)) 4 _ (λ q. omega arith) (two .1) in
-    let five = passed (leb (length xs) 65536 && samplesGood xs) 5 _ (λ q. omega arith) (four .1) in
-    let six = passed (leb (recordSize * recordCount (w .session) xs) room) 6 _ (λ q. omega arith) (five .1) in
-    record { sound = one .0; good-map = two .0; fits = four .0; samples = five .0; enough = six .0 }
+    let twelve = passed (topFits c m) 12 _ (λ q. omega arith) (four .1) in
+    let five = passed (leb (length xs) 65536 && samplesGood xs) 5 _ (λ q. omega arith) (twelve .1) in
+    let six = passed (leb (recordSize * recordCount c (w .session) xs) room) 6 _ (λ q. omega arith) (five .1) in
+    record { sound = one .0; good-map = two .0; fits = four .0; top = twelve .0; samples = five .0; enough = six .0 }
 
-module _ (m : List ℕ) (b : Banks) (n : ℕ) (given : n ≡ mapNumber m) where
+module _ (c : Chip) (m : List ℕ) (b : Banks) (n : ℕ) (given : n ≡ mapNumber c m) where
   -- the map is refused
-  pub map-refused : n ≢ 0 → n ≡ openNumber m b
+  pub map-refused : n ≢ 0 → n ≡ openNumber c m b
   unfolding openNumber
-  map-refused z = no _ (ne-eqb (mapNumber m) 0 (λ q. z (given ∙ q))) given
+  map-refused z = no _ (ne-eqb (mapNumber c m) 0 (λ q. z (given ∙ q))) given
 
-  -- the map is good, and only the banks are left to test
-  pub banks-next : n ≡ 0 → (k r : ℕ) → k ≡ countOf m → r ≡ unless (eqb (length (b .active)) k && eqb (length (b .buffer)) k) 4 0 → r ≡ openNumber m b
+  -- the map is good, and only the banks and the top are left to test
+  pub banks-next : n ≡ 0 → (k r : ℕ) → k ≡ countOf m
+      → r ≡ unless (eqb (length (b .active)) k && eqb (length (b .buffer)) k) 4 (unless (topFits c m) 12 0) → r ≡ openNumber c m b
   unfolding openNumber
-  banks-next z k r e q = yes _ (eq-eqb (mapNumber m) 0 (sym given ∙ z)) (rw e at q)
+  banks-next z k r e q = yes _ (eq-eqb (mapNumber c m) 0 (sym given ∙ z)) (rw e at q)
 
-module _ (m : List ℕ) (w : World) (xs : List ℕ) (room : ℕ) where
-  pub unsound : soundSession (w .session) ≡ false → 1 ≡ readNumber m w xs room
+module _ (c : Chip) (m : List ℕ) (w : World) (xs : List ℕ) (room : ℕ) where
+  pub unsound : soundSession c (w .session) ≡ false → 1 ≡ readNumber c m w xs room
   unfolding readNumber
   unsound e = no _ e refl
 
-  module _ (sound : soundSession (w .session) ≡ true) where
+  module _ (sound : soundSession c (w .session) ≡ true) where
     -- opening would be refused too
-    pub not-opened : openNumber m (w .banks) ≢ 0 → openNumber m (w .banks) ≡ readNumber m w xs room
+    pub not-opened : openNumber c m (w .banks) ≢ 0 → openNumber c m (w .banks) ≡ readNumber c m w xs room
     unfolding readNumber openNumber
-    not-opened n = yes _ sound (refused-first (mapNumber m) (banksFit m (w .banks)) _ n)
+    not-opened n = yes _ sound (refused-first (mapNumber c m) (banksFit m (w .banks)) (topFits c m) _ n)
 
     -- the map is refused
-    pub map-first : (n : ℕ) → n ≡ mapNumber m → n ≢ 0 → n ≡ readNumber m w xs room
+    pub map-first : (n : ℕ) → n ≡ mapNumber c m → n ≢ 0 → n ≡ readNumber c m w xs room
     map-first n given z =
-        let e = map-refused m (w .banks) n given z in
+        let e = map-refused c m (w .banks) n given z in
         e ∙ not-opened (λ q. z (e ∙ q))
 
-    module _ (fits : openNumber m (w .banks) ≡ 0) where
+    module _ (fits : openNumber c m (w .banks) ≡ 0) where
       -- only the samples and the room are left to test
       samples-next : (n : ℕ)
-          → n ≡ unless (leb (length xs) 65536 && samplesGood xs) 5 (unless (leb (recordSize * recordCount (w .session) xs) room) 6 0)
-          → n ≡ readNumber m w xs room
+          → n ≡ unless (leb (length xs) 65536 && samplesGood xs) 5 (unless (leb (recordSize * recordCount c (w .session) xs) room) 6 0)
+          → n ≡ readNumber c m w xs room
       unfolding readNumber
       samples-next n e =
-          let t = opens m (w .banks) fits in
-          yes _ sound (yes _ (eq-eqb (mapNumber m) 0 (t .0)) (yes _ (t .1) e))
+          let t = opens c m (w .banks) fits in
+          yes _ sound (yes _ (eq-eqb (mapNumber c m) 0 (t .good-map)) (yes _ (t .fits) (yes _ (t .top) e)))
 
-      pub too-many : 65536 < length xs → 5 ≡ readNumber m w xs room
+      pub too-many : 65536 < length xs → 5 ≡ readNumber c m w xs room
       too-many h =
           let t : (leb (length xs) 65536 && samplesGood xs) ≡ false = rw (lt-leb (length xs) 65536 h) in
           samples-next 5 (no _ t refl)
 
       module _ (few : length xs ≤ 65536) (good : Bool) (looked : good ≡ samplesGood xs) where
-        pub one-bad : good ≡ false → 5 ≡ readNumber m w xs room
+        pub one-bad : good ≡ false → 5 ≡ readNumber c m w xs room
         one-bad e =
             let t : (leb (length xs) 65536 && samplesGood xs) ≡ false = rw (le-leb (length xs) 65536 few) (sym looked ∙ e) in
             samples-next 5 (no _ t refl)
 
         -- only the room is left to test
-        room-next : good ≡ true → (n : ℕ) → n ≡ unless (leb (recordSize * recordCount (w .session) xs) room) 6 0 → n ≡ readNumber m w xs room
+        room-next : good ≡ true → (n : ℕ) → n ≡ unless (leb (recordSize * recordCount c (w .session) xs) room) 6 0 → n ≡ readNumber c m w xs room
         room-next e n q =
             let t : (leb (length xs) 65536 && samplesGood xs) ≡ true = rw (le-leb (length xs) 65536 few) (sym looked ∙ e) in
             samples-next n (yes _ t q)
 
-        module _ (all-good : good ≡ true) (enough : Bool) (counted : enough ≡ leb (recordSize * recordCount (w .session) xs) room) where
-          pub room-found : enough ≡ true → 0 ≡ readNumber m w xs room
+        module _ (all-good : good ≡ true) (enough : Bool) (counted : enough ≡ leb (recordSize * recordCount c (w .session) xs) room) where
+          pub room-found : enough ≡ true → 0 ≡ readNumber c m w xs room
           room-found e = room-next all-good 0 (yes _ (sym counted ∙ e) refl)
 
-          pub room-short : enough ≡ false → 6 ≡ readNumber m w xs room
+          pub room-short : enough ≡ false → 6 ≡ readNumber c m w xs room
           room-short e = room-next all-good 6 (no _ (sym counted ∙ e) refl)

@@ -7,6 +7,7 @@ use native.Mathlib.Numerals.{add-one}
 use lib.Dec.{leb}
 use lib.ListN.{length, getD, drop, drop-of-length-le}
 use lib.Seq.{drop-cons}
+use Rattle.chip.specs.declared.Chip.{Chip}
 use Rattle.session.specs.State.{soundSession}
 use Rattle.run.specs.Reading.{World}
 use Rattle.run.specs.Contracts.{Ready}
@@ -23,5 +24,5 @@ unfolding samplesGood
 good-all xs good i h e = sym (and-true good) ∙ (rw (drop-of-length-le xs h) at e)
 
 -- a pass that puts no record asks nothing of the map, the banks and the buffer
-pub ready-to-count : (m : List ℕ) (w : World) (xs old : List ℕ) → soundSession (w .session) ≡ true → length xs ≤ 65536 → Ready false m w xs old
-ready-to-count m w xs old f h = record { sound = f; few = h; mapped = λ p. absurd (false≢true p); room = λ p. absurd (false≢true p) }
+pub ready-to-count : (c : Chip) (m : List ℕ) (w : World) (xs old : List ℕ) → soundSession c (w .session) ≡ true → length xs ≤ 65536 → Ready c false m w xs old
+ready-to-count c m w xs old f h = record { sound = f; few = h; mapped = λ p. absurd (false≢true p); room = λ p. absurd (false≢true p) }

@@ -1,4 +1,4 @@
--- Document 01, "Numbers given back": the numbers of the reader's two calls.
+-- Document 01, "Numbers given back": the numbers of the reader's two calls, on any chip.
 use Prim.Native.Nat.{ℕ, _*_}
 use mathlib.Core.Bool.{Bool, true, _&&_}
 use mathlib.Core.List.{List, [], _∷_}
@@ -6,8 +6,9 @@ use lib.ListN.{length}
 use lib.Dec.{eqb, leb}
 use Rattle.bits.specs.Tests.{unless}
 use Rattle.sizes.specs.Sizes.{recordSize}
+use Rattle.chip.specs.declared.Chip.{Chip}
 use Rattle.regmap.specs.Format.{countOf}
-use Rattle.maptest.specs.MapTest.{mapNumber}
+use Rattle.maptest.specs.MapTest.{mapNumber, topFits}
 use Rattle.session.specs.State.{soundSession}
 use Rattle.registers.specs.Banks.{Banks}
 use Rattle.run.specs.Reading.{World, recordCount}
@@ -16,24 +17,26 @@ use Rattle.run.specs.Reading.{World, recordCount}
 abbrev pub banksFit : List ℕ → Banks → Bool
 banksFit m b = eqb (length (b .active)) (countOf m) && eqb (length (b .buffer)) (countOf m)
 
--- The number of opening: the lowest that applies.
-unfoldable pub openNumber : List ℕ → Banks → ℕ
-openNumber m b =
-    unless (eqb (mapNumber m) 0) (mapNumber m)
+-- The number of opening: the lowest that applies; document 02, Ask 1: 12 after 4.
+unfoldable pub openNumber : Chip → List ℕ → Banks → ℕ
+openNumber c m b =
+    unless (eqb (mapNumber c m) 0) (mapNumber c m)
     (unless (banksFit m b) 4
-    0)
+    (unless (topFits c m) 12
+    0))
 
 -- Document 01, "Samples and edges": bits 4 to 7 of each sample are zero.
 unfoldable pub samplesGood : List ℕ → Bool
 samplesGood [] = true
 samplesGood (x ∷ xs) = leb x 15 && samplesGood xs
 
--- The number of the reader: the lowest that applies. Number 6 counts the size of a record for each.
-unfoldable pub readNumber : List ℕ → World → List ℕ → ℕ → ℕ
-readNumber m w samples room =
-    unless (soundSession (w .session)) 1
-    (unless (eqb (mapNumber m) 0) (mapNumber m)
+-- The number of the reader: the lowest that applies, but for 12, which comes after 4. Number 6 counts the size of a record for each.
+unfoldable pub readNumber : Chip → List ℕ → World → List ℕ → ℕ → ℕ
+readNumber c m w samples room =
+    unless (soundSession c (w .session)) 1
+    (unless (eqb (mapNumber c m) 0) (mapNumber c m)
     (unless (banksFit m (w .banks)) 4
+    (unless (topFits c m) 12
     (unless (leb (length samples) 65536 && samplesGood samples) 5
-    (unless (leb (recordSize * recordCount (w .session) samples) room) 6
-    0))))
+    (unless (leb (recordSize * recordCount c (w .session) samples) room) 6
+    0)))))

@@ -7,28 +7,34 @@ ghost use Rattle.refusals.specs.Numbers.{openNumber, readNumber};
 
 mod room;
 
+use chip::Chip;
+use maptest::top_fits;
 use room::room_suffices;
 use room::samples_good;
 use session::Session;
 use soundness::sound;
 
 // The number of opening, by that of the map test: 0, or the refusal.
-pub fn open_refusal(number: u8, map: &[u8], active: &[u8], buffer: &[u8]) -> u8
-    requires { ⌜ number ≡ mapNumber (now map) ⌝ }
-    ensures { λ r. ⌜ r ≡ openNumber (now (map .entry)) (banks (now (active .entry)) (now (buffer .entry))) ⌝ }
+pub fn open_refusal(chip: Chip, number: u8, map: &[u8], active: &[u8], buffer: &[u8]) -> u8
+    requires { ⌜ number ≡ mapNumber chip (now map) ⌝ }
+    ensures { λ r. ⌜ r ≡ openNumber chip (now (map .entry)) (banks (now (active .entry)) (now (buffer .entry))) ⌝ }
 {
     if number != 0 {
         return number;
     }
     let count = regmap::count(map);
     if (active.len() == count) & (buffer.len() == count) {
-        return 0;
+        if top_fits(chip, map) {
+            return 0;
+        }
+        return 12;
     }
     4
 }
 
-// The number of reading on a good map: 0, or the refusal.
+// The number of reading on a map that the chip can have: 0, or the refusal.
 pub fn read_refusal(
+    chip: Chip,
     map: &[u8],
     session: Session,
     active: &[u8],
@@ -36,13 +42,13 @@ pub fn read_refusal(
     samples: &[u8],
     room: usize,
 ) -> u8
-    requires { ⌜ mapNumber (now map) ≡ 0 ⌝ }
-    ensures { λ r. ⌜ r ≡ readNumber (now (map .entry)) (world session (now (active .entry)) (now (buffer .entry))) (now (samples .entry)) room ⌝ }
+    requires { ⌜ mapNumber chip (now map) ≡ 0 ⌝ }
+    ensures { λ r. ⌜ r ≡ readNumber chip (now (map .entry)) (world session (now (active .entry)) (now (buffer .entry))) (now (samples .entry)) room ⌝ }
 {
-    if !sound(session) {
+    if !sound(chip, session) {
         return 1;
     }
-    let opens = open_refusal(0, map, active, buffer);
+    let opens = open_refusal(chip, 0, map, active, buffer);
     if opens != 0 {
         return opens;
     }
@@ -52,7 +58,7 @@ pub fn read_refusal(
     if !samples_good(samples) {
         return 5;
     }
-    if room_suffices(session, samples, room) {
+    if room_suffices(chip, session, samples, room) {
         return 0;
     }
     6

@@ -8,6 +8,7 @@ ghost use Rattle.sizes.specs.Sizes.{recordSize};
 ghost use Rattle.session.specs.State.{soundSession};
 ghost use Rattle.run.specs.Reading.{recordCount};
 ghost use Rattle.refusals.specs.Numbers.{samplesGood};
+use chip::Chip;
 use run::run_samples;
 use session::Session;
 use sizes::RECORD;
@@ -26,15 +27,16 @@ pub fn samples_good(samples: &[u8]) -> bool
 }
 
 // How many records the samples give: a pass over them with nothing to put, no map and no banks.
-fn count_records(session: Session, samples: &[u8]) -> usize
-    requires { ⌜ (soundSession session ≡ true) × (length (now samples) ≤ 65536) ⌝ }
-    ensures { λ r. ⌜ r ≡ recordCount session (now (samples .entry)) ⌝ }
+fn count_records(chip: Chip, session: Session, samples: &[u8]) -> usize
+    requires { ⌜ (soundSession chip session ≡ true) × (length (now samples) ≤ 65536) ⌝ }
+    ensures { λ r. ⌜ r ≡ recordCount chip session (now (samples .entry)) ⌝ }
 {
     let map = [0u8; 1];
     let mut active = [0u8; 1];
     let mut buffer = [0u8; 1];
     let mut records = [0u8; 1];
     let passed = run_samples(
+        chip,
         false,
         &map,
         session,
@@ -47,12 +49,12 @@ fn count_records(session: Session, samples: &[u8]) -> usize
 }
 
 // Whether the records of the samples have room. They are counted only where the room may not suffice.
-pub fn room_suffices(session: Session, samples: &[u8], room: usize) -> bool
-    requires { ⌜ (soundSession session ≡ true) × (length (now samples) ≤ 65536) ⌝ }
-    ensures { λ r. ⌜ r ≡ leb (recordSize * recordCount session (now (samples .entry))) room ⌝ }
+pub fn room_suffices(chip: Chip, session: Session, samples: &[u8], room: usize) -> bool
+    requires { ⌜ (soundSession chip session ≡ true) × (length (now samples) ≤ 65536) ⌝ }
+    ensures { λ r. ⌜ r ≡ leb (recordSize * recordCount chip session (now (samples .entry))) room ⌝ }
 {
     if RECORD * ((samples.len() + 2) / 3) <= room {
         return true;
     }
-    RECORD * count_records(session, samples) <= room
+    RECORD * count_records(chip, session, samples) <= room
 }

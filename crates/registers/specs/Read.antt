@@ -6,13 +6,15 @@ use lib.ListN.{getD}
 use lib.Dec.{eqb}
 use Rattle.regmap.specs.declared.Entry.{Entry}
 use Rattle.regmap.specs.Format.{registerAt, blank, buffered, control}
+use Rattle.chip.specs.declared.Chip.{Chip}
+use Rattle.chip.specs.Chip.{readsBuffer}
 use Rattle.settings.specs.declared.Settings.{Settings}
 use Rattle.settings.specs.Settings.{controlReading}
 use Rattle.registers.specs.Banks.{Banks}
 
-unfoldable pub dueByte : List ℕ → Banks → Settings → ℕ → ℕ
-dueByte m b t a =
+unfoldable pub dueByte : Chip → List ℕ → Banks → Settings → ℕ → ℕ
+dueByte c m b t a =
     cond (eqb (registerAt m a .kind) blank) 0
-    (cond (eqb (registerAt m a .kind) control) (controlReading t a)
-    (cond (eqb (registerAt m a .kind) buffered && t .readback) (getD (b .buffer) a 0)
+    (cond (eqb (registerAt m a .kind) control) (controlReading c t a)
+    (cond (eqb (registerAt m a .kind) buffered && (t .readback && readsBuffer c)) (getD (b .buffer) a 0)
     (getD (b .active) a 0)))

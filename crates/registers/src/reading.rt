@@ -2,6 +2,8 @@
 ghost use mathlib.Core.Path.{_≡_};
 ghost use Rattle.registers.specs.Banks.{banks, Mapped};
 ghost use Rattle.registers.specs.Read.{dueByte};
+use chip::Chip;
+use chip::reads_buffer;
 use regmap::BLANK;
 use regmap::BUFFERED;
 use regmap::CONTROL;
@@ -9,9 +11,16 @@ use regmap::entry_at;
 use settings::Settings;
 
 // The byte that a read of the register at an address is due.
-pub fn due_byte(map: &[u8], active: &[u8], buffer: &[u8], settings: Settings, address: u16) -> u8
+pub fn due_byte(
+    chip: Chip,
+    map: &[u8],
+    active: &[u8],
+    buffer: &[u8],
+    settings: Settings,
+    address: u16,
+) -> u8
     requires { ⌜ Mapped (now map) (banks (now active) (now buffer)) ⌝ }
-    ensures { λ r. ⌜ r ≡ dueByte (now (map .entry)) (banks (now (active .entry)) (now (buffer .entry))) settings address ⌝ }
+    ensures { λ r. ⌜ r ≡ dueByte chip (now (map .entry)) (banks (now (active .entry)) (now (buffer .entry))) settings address ⌝ }
 {
     let at = address as usize;
     let kind = entry_at(map, active.len(), at).kind;
@@ -19,9 +28,9 @@ pub fn due_byte(map: &[u8], active: &[u8], buffer: &[u8], settings: Settings, ad
         return 0;
     }
     if kind == CONTROL {
-        return settings.reading(address);
+        return settings.reading(chip, address);
     }
-    if (kind == BUFFERED) & settings.readback {
+    if (kind == BUFFERED) & (settings.readback & reads_buffer(chip)) {
         return buffer[at];
     }
     active[at]

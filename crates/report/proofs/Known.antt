@@ -3,7 +3,7 @@ use mathlib.Core.Path.{_≡_, refl}
 use Prim.Native.Nat.{_-_, _^_}
 use Rattle.lines.specs.Text.{bytesOf}
 use Rattle.report.specs.Numbers.{decimalIn, decimalOf}
-use Rattle.report.specs.Text.{mapLine, countLine, refusedLine}
+use Rattle.report.specs.Text.{mapLine, countLine, olderCountLine, refusedLine}
 
 pub first-line : mapLine 16 ≡ bytesOf "map 16\n"
 unfolding mapLine decimalIn
@@ -12,6 +12,10 @@ first-line = refl
 pub last-line : countLine 1 51 0 ≡ bytesOf "records 1 samples 51 slow 0\n"
 unfolding countLine decimalIn
 last-line = refl
+
+pub older-last-line : olderCountLine 1 51 ≡ bytesOf "records 1 samples 51\n"
+unfolding olderCountLine decimalIn
+older-last-line = refl
 
 pub refusal-line : refusedLine 5 ≡ bytesOf "refused 5\n"
 unfolding refusedLine decimalIn

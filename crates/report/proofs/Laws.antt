@@ -17,7 +17,7 @@ use Rattle.lines.specs.Text.{bytesOf, digitOf}
 use Rattle.lines.specs.Line.{lineSize, lineOf}
 use Rattle.lines.proofs.Laws.{line-length}
 use Rattle.report.specs.Numbers.{decimalIn, decimalOf}
-use Rattle.report.specs.Text.{linesOf, countLine}
+use Rattle.report.specs.Text.{linesOf, countLine, olderCountLine}
 use Rattle.report.specs.Put.{Placed, Printed, Listed}
 
 -- one text after another
@@ -45,6 +45,19 @@ unfolding countLine
 placed-counts records samples slow {at} {old} {mid} {later} {new} {i} {j} {k} p q r =
     let text = three-numbers (bytesOf "records ") (decimalOf records) (bytesOf " ") (bytesOf "samples ") (decimalOf samples) (bytesOf " ") (bytesOf "slow ") (decimalOf slow) (bytesOf "\n") in
     subst (λ (l : List ℕ). Placed l at old new k) text (placed-next p (placed-next q r))
+
+two-numbers : (a l b c m d : List ℕ) → (a ++ l ++ b) ++ (c ++ m ++ d) ≡ a ++ l ++ (b ++ c) ++ m ++ d
+two-numbers a l b c m d = simp append-assoc
+
+-- two of them are that of an older part
+pub placed-older-counts : (records samples : ℕ) {at : ℕ} {old mid new : List ℕ} {i j : ℕ}
+    → Placed (bytesOf "records " ++ decimalOf records ++ bytesOf " ") at old mid i
+    → Placed (bytesOf "samples " ++ decimalOf samples ++ bytesOf "\n") i mid new j
+    → Placed (olderCountLine records samples) at old new j
+unfolding olderCountLine
+placed-older-counts records samples {at} {old} {mid} {new} {i} {j} p q =
+    let text = two-numbers (bytesOf "records ") (decimalOf records) (bytesOf " ") (bytesOf "samples ") (decimalOf samples) (bytesOf "\n") in
+    subst (λ (l : List ℕ). Placed l at old new j) text (placed-next p q)
 
 -- a text at the start of a buffer
 pub placed-printed : {line old new : List ℕ} {n : ℕ} → n ≤ length old → Placed line 0 old new n → Printed line old new n

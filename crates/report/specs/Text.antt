@@ -21,6 +21,10 @@ unfoldable pub countLine : ℕ → ℕ → ℕ → List ℕ
 countLine records samples slow =
     bytesOf "records " ++ decimalOf records ++ bytesOf " samples " ++ decimalOf samples ++ bytesOf " slow " ++ decimalOf slow ++ bytesOf "\n"
 
+-- Document 02, Ask 1: the same for an older part, which has no slow setting to ask for
+unfoldable pub olderCountLine : ℕ → ℕ → List ℕ
+olderCountLine records samples = bytesOf "records " ++ decimalOf records ++ bytesOf " samples " ++ decimalOf samples ++ bytesOf "\n"
+
 -- a refusal, with its number
 unfoldable pub refusedLine : ℕ → List ℕ
 refusedLine number = bytesOf "refused " ++ decimalOf number ++ bytesOf "\n"

@@ -4,7 +4,7 @@ ghost use mathlib.Core.List.{_∷_, [], _++_};
 ghost use Prim.Native.Nat.{_+_, _≤_, min};
 ghost use lib.ListN.{length};
 ghost use Rattle.report.specs.Numbers.{decimalOf};
-ghost use Rattle.report.specs.Text.{mapLine, countLine, refusedLine};
+ghost use Rattle.report.specs.Text.{mapLine, countLine, olderCountLine, refusedLine};
 ghost use Rattle.report.specs.Put.{Placed, Printed, Listed};
 use lines::LINE;
 use sizes::RECORD;
@@ -72,6 +72,14 @@ pub fn put_count_line(records: u64, samples: u64, slow: u64, out: &mut [u8; LAST
     let at = put_number(b"records ", records, b' ', out, 0);
     let at = put_number(b"samples ", samples, b' ', out, at);
     put_number(b"slow ", slow, b'\n', out, at)
+}
+
+// The last line of an older part, with the numbers of records and of samples; how many bytes it is.
+pub fn put_older_count_line(records: u64, samples: u64, out: &mut [u8; LAST_LINE]) -> usize
+    ensures { λ r. ⌜ Printed (olderCountLine records samples) (now (out .entry)) (now (out .exit)) r ⌝ }
+{
+    let at = put_number(b"records ", records, b' ', out, 0);
+    put_number(b"samples ", samples, b'\n', out, at)
 }
 
 // The line of a refusal, with its number; how many bytes it is.

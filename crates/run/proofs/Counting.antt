@@ -9,6 +9,7 @@ use native.Mathlib.Nat.{add-zero}
 use lib.ListN.{length, getD, drop, drop-of-length-le}
 use lib.Seq.{drop-cons}
 use Rattle.sizes.specs.Sizes.{recordSize}
+use Rattle.chip.specs.declared.Chip.{Chip}
 use Rattle.session.specs.declared.Session.{Session}
 use Rattle.session.specs.declared.Event.{Event}
 use Rattle.session.specs.State.{soundSession}
@@ -21,36 +22,36 @@ use Rattle.run.specs.Reading.{recordCount}
 use Rattle.run.proofs.Bound.{records-bound}
 
 -- i samples are passed over, and the size of their records counted: with that of what is left it is the whole
-pub record Counting (xs : List ℕ) (s₀ s : Session) (size i : ℕ) : Type 0 where
+pub record Counting (c : Chip) (xs : List ℕ) (s₀ s : Session) (size i : ℕ) : Type 0 where
   pub within : i ≤ length xs
-  pub sound : soundSession s ≡ true
-  pub rest : size + recordSize * recordCount s (drop i xs) ≡ recordSize * recordCount s₀ xs
+  pub sound : soundSession c s ≡ true
+  pub rest : size + recordSize * recordCount c s (drop i xs) ≡ recordSize * recordCount c s₀ xs
 
-pub counting-begun : (xs : List ℕ) (s : Session) → soundSession s ≡ true → Counting xs s s 0 0
-counting-begun xs s f = record { within = omega arith; sound = f; rest = omega arith }
+pub counting-begun : (c : Chip) (xs : List ℕ) (s : Session) → soundSession c s ≡ true → Counting c xs s s 0 0
+counting-begun c xs s f = record { within = omega arith; sound = f; rest = omega arith }
 
-counted : {xs : List ℕ} {s₀ s : Session} {size i : ℕ} → i < length xs → Counting xs s₀ s size i
-    → Counting xs s₀ (stepOf s (getD xs i 0)) (size + recordSize * recordsIn (eventOf s (getD xs i 0))) (i + 1)
+counted : {c : Chip} {xs : List ℕ} {s₀ s : Session} {size i : ℕ} → i < length xs → Counting c xs s₀ s size i
+    → Counting c xs s₀ (stepOf c s (getD xs i 0)) (size + recordSize * recordsIn (eventOf c s (getD xs i 0))) (i + 1)
 unfolding recordCount
-counted {xs} {s₀} {s} {size} {i} h k = record {
+counted {c} {xs} {s₀} {s} {size} {i} h k = record {
   within = omega arith;
-  sound = sound-step s (getD xs i 0) (k .sound);
+  sound = sound-step c s (getD xs i 0) (k .sound);
   rest = rw add-one (omega (arith, rw (drop-cons xs i 0) at (k .rest)));
 }
 
-still-counting : {xs : List ℕ} {s₀ s t : Session} {size i j : ℕ} → Counting xs s₀ s size i → Quiet xs s i t j → Counting xs s₀ t size j
+still-counting : {c : Chip} {xs : List ℕ} {s₀ s t : Session} {size i j : ℕ} → Counting c xs s₀ s size i → Quiet c xs s i t j → Counting c xs s₀ t size j
 still-counting k still = k
 still-counting {size = size} k (more q h e) = rw (e, add-zero size) at (counted h (still-counting k q))
 
-pub counted-next : {xs : List ℕ} {s₀ s t : Session} {size i j : ℕ} {e : Event} → Counting xs s₀ s size i → Next xs s i e t j
-    → Counting xs s₀ t (size + recordSize * recordsIn e) j
+pub counted-next : {c : Chip} {xs : List ℕ} {s₀ s t : Session} {size i j : ℕ} {e : Event} → Counting c xs s₀ s size i → Next c xs s i e t j
+    → Counting c xs s₀ t (size + recordSize * recordsIn e) j
 counted-next {size = size} k (none q) = rw (add-zero size) (still-counting k q)
 counted-next k (one q h) = counted h (still-counting k q)
 
 -- the size is a number that fits
-pub size-fits : {xs : List ℕ} {s₀ s : Session} {size i : ℕ} → length xs ≤ 65536 → Counting xs s₀ s size i → size < 2 ^ 64
-size-fits {xs} {s₀} h k = omega (arith, records-bound s₀ xs, k .rest)
+pub size-fits : {c : Chip} {xs : List ℕ} {s₀ s : Session} {size i : ℕ} → length xs ≤ 65536 → Counting c xs s₀ s size i → size < 2 ^ 64
+size-fits {c} {xs} {s₀} h k = omega (arith, records-bound c s₀ xs, k .rest)
 
-pub counting-ended : {xs : List ℕ} {s₀ s : Session} {size i : ℕ} → length xs ≤ i → Counting xs s₀ s size i → size ≡ recordSize * recordCount s₀ xs
+pub counting-ended : {c : Chip} {xs : List ℕ} {s₀ s : Session} {size i : ℕ} → length xs ≤ i → Counting c xs s₀ s size i → size ≡ recordSize * recordCount c s₀ xs
 unfolding recordCount
-counting-ended {xs} {s₀} {s} {size} {i} h k = sym (add-zero size) ∙ (rw (drop-of-length-le xs h) at (k .rest))
+counting-ended {c} {xs} {s₀} {s} {size} {i} h k = sym (add-zero size) ∙ (rw (drop-of-length-le xs h) at (k .rest))

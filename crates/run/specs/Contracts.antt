@@ -6,6 +6,7 @@ use mathlib.Core.List.{List}
 use lib.ListN.{length}
 use Rattle.bits.specs.Buffer.{filled}
 use Rattle.sizes.specs.Sizes.{recordSize}
+use Rattle.chip.specs.declared.Chip.{Chip}
 use Rattle.settings.specs.declared.Settings.{Settings}
 use Rattle.session.specs.declared.Event.{Event}
 use Rattle.session.specs.State.{soundSession}
@@ -15,28 +16,28 @@ use Rattle.records.specs.Contracts.{Taking, Taken}
 use Rattle.run.specs.Reading.{World, runOf, recordsOf, recordCount}
 
 -- before an event is taken, or only counted where no record is put
-pub record Passing (put : Bool) (m : List ℕ) (b : Banks) (t : Settings) (e : Event) (old : List ℕ) (at : ℕ) : Type 0 where
+pub record Passing (c : Chip) (put : Bool) (m : List ℕ) (b : Banks) (t : Settings) (e : Event) (old : List ℕ) (at : ℕ) : Type 0 where
   pub fits : at + recordSize * recordsIn e < 2 ^ 64
-  pub taking : put ≡ true → Taking m b t e old at
+  pub taking : put ≡ true → Taking c m b t e old at
 
-pub record Past (put : Bool) (m : List ℕ) (b : Banks) (t : Settings) (e : Event) (old : List ℕ) (at : ℕ) (after : Banks) (new : List ℕ) (next : ℕ) : Type 0 where
+pub record Past (c : Chip) (put : Bool) (m : List ℕ) (b : Banks) (t : Settings) (e : Event) (old : List ℕ) (at : ℕ) (after : Banks) (new : List ℕ) (next : ℕ) : Type 0 where
   pub next-place : next ≡ at + recordSize * recordsIn e
-  pub taken : put ≡ true → Taken m b t e old at after new next
+  pub taken : put ≡ true → Taken c m b t e old at after new next
 
 -- before samples are read: a sound session; and, where their records are put, what a good map and enough room give
-pub record Ready (put : Bool) (m : List ℕ) (w : World) (samples old : List ℕ) : Type 0 where
-  pub sound : soundSession (w .session) ≡ true
+pub record Ready (c : Chip) (put : Bool) (m : List ℕ) (w : World) (samples old : List ℕ) : Type 0 where
+  pub sound : soundSession c (w .session) ≡ true
   pub few : length samples ≤ 65536
   pub mapped : put ≡ true → Mapped m (w .banks)
-  pub room : put ≡ true → length (recordsOf m w samples) ≤ length old
+  pub room : put ≡ true → length (recordsOf c m w samples) ≤ length old
 
 -- after them, where their records are put: the session and the banks, how many bytes of records, and the record buffer
-pub record Done (m : List ℕ) (w : World) (samples old : List ℕ) (after : World) (size : ℕ) (new : List ℕ) : Type 0 where
-  pub world-after : after ≡ runOf m w samples
-  pub size-is : size ≡ length (recordsOf m w samples)
-  pub records-after : new ≡ filled (recordsOf m w samples) old
+pub record Done (c : Chip) (m : List ℕ) (w : World) (samples old : List ℕ) (after : World) (size : ℕ) (new : List ℕ) : Type 0 where
+  pub world-after : after ≡ runOf c m w samples
+  pub size-is : size ≡ length (recordsOf c m w samples)
+  pub records-after : new ≡ filled (recordsOf c m w samples) old
 
 -- after them, put or not: the size of a record for each
-pub record Ran (put : Bool) (m : List ℕ) (w : World) (samples old : List ℕ) (after : World) (size : ℕ) (new : List ℕ) : Type 0 where
-  pub size-each : size ≡ recordSize * recordCount (w .session) samples
-  pub done : put ≡ true → Done m w samples old after size new
+pub record Ran (c : Chip) (put : Bool) (m : List ℕ) (w : World) (samples old : List ℕ) (after : World) (size : ℕ) (new : List ℕ) : Type 0 where
+  pub record-size-each : size ≡ recordSize * recordCount c (w .session) samples
+  pub done : put ≡ true → Done c m w samples old after size new

@@ -3,6 +3,7 @@
 ghost use Rattle.registers.specs.Banks.{banks};
 ghost use Rattle.run.specs.Reading.{world};
 ghost use Rattle.run.specs.Contracts.{Passing, Past, Ready, Ran};
+use chip::Chip;
 use records::records_in;
 use records::take_event;
 use session::Event;
@@ -19,6 +20,7 @@ pub struct Passed {
 
 // Takes an event, or only counts its record where none is put; the place after it.
 fn pass_event(
+    chip: Chip,
     put: bool,
     map: &[u8],
     active: &mut [u8],
@@ -28,11 +30,11 @@ fn pass_event(
     records: &mut [u8],
     at: usize,
 ) -> usize
-    requires { ⌜ Passing put (now map) (banks (now active) (now buffer)) settings event (now records) at ⌝ }
-    ensures { λ r. ⌜ Past put (now (map .entry)) (banks (now (active .entry)) (now (buffer .entry))) settings event (now (records .entry)) at (banks (now (active .exit)) (now (buffer .exit))) (now (records .exit)) r ⌝ }
+    requires { ⌜ Passing chip put (now map) (banks (now active) (now buffer)) settings event (now records) at ⌝ }
+    ensures { λ r. ⌜ Past chip put (now (map .entry)) (banks (now (active .entry)) (now (buffer .entry))) settings event (now (records .entry)) at (banks (now (active .exit)) (now (buffer .exit))) (now (records .exit)) r ⌝ }
 {
     if put {
-        return take_event(map, active, buffer, settings, event, records, at);
+        return take_event(chip, map, active, buffer, settings, event, records, at);
     }
     at + RECORD * records_in(event)
 }
@@ -40,6 +42,7 @@ fn pass_event(
 // Reads samples; or only counts their records where none is put. This is the one hot loop: what it calls has no other caller,
 // so that the compiler can keep the session in registers.
 pub fn run_samples(
+    chip: Chip,
     put: bool,
     map: &[u8],
     session: Session,
@@ -48,17 +51,17 @@ pub fn run_samples(
     samples: &[u8],
     records: &mut [u8],
 ) -> Passed
-    requires { ⌜ Ready put (now map) (world session (now active) (now buffer)) (now samples) (now records) ⌝ }
-    ensures { λ r. ⌜ Ran put (now (map .entry)) (world session (now (active .entry)) (now (buffer .entry))) (now (samples .entry)) (now (records .entry)) (world (r .session) (now (active .exit)) (now (buffer .exit))) (r .size) (now (records .exit)) ⌝ }
+    requires { ⌜ Ready chip put (now map) (world session (now active) (now buffer)) (now samples) (now records) ⌝ }
+    ensures { λ r. ⌜ Ran chip put (now (map .entry)) (world session (now (active .entry)) (now (buffer .entry))) (now (samples .entry)) (now (records .entry)) (world (r .session) (now (active .exit)) (now (buffer .exit))) (r .size) (now (records .exit)) ⌝ }
 {
     let mut s = session;
     let mut at: usize = 0;
     let mut i: usize = 0;
     while i < samples.len() {
-        let next = next_event(s, samples, i);
+        let next = next_event(chip, s, samples, i);
         let event = next.event;
         let settings = s.settings;
-        at = pass_event(put, map, active, buffer, settings, event, records, at);
+        at = pass_event(chip, put, map, active, buffer, settings, event, records, at);
         s = next.session;
         i = next.at;
     }

@@ -8,21 +8,29 @@ use borrow.Author.Tests.{eq-eqb, ne-eqb}
 use Rattle.bits.specs.Buffer.{Put}
 use Rattle.bits.proofs.Cases.{yes, no}
 use Rattle.bits.proofs.Putting.{put-filled}
+use Rattle.chip.specs.declared.Part.{Part}
+use Rattle.chip.specs.declared.Chip.{Chip}
+use Rattle.chip.specs.declared.Chip.the-variants.{Older}
 use Rattle.order.specs.Order.{Order}
-use Rattle.order.specs.Samples.{samplesOf}
+use Rattle.order.specs.Samples.{orderBits, samplesOf}
 use Rattle.order.specs.Number.{sendNumber}
 use Rattle.sender.specs.Calls.{sending, sendOf}
 use Rattle.order.proofs.Laws.{admitted}
 
-module _ (o : Order) (old : List ℕ) where
-  pub done : (k n : ℕ) (new : List ℕ) → k ≡ sendNumber o (length old) → k ≡ 0 → Put old 0 (samplesOf o) n new → sending 0 n new ≡ sendOf o old
+module _ (c : Chip) (o : Order) (old : List ℕ) where
+  pub done : (k n : ℕ) (new : List ℕ) → k ≡ sendNumber c o (length old) → k ≡ 0 → Put old 0 (samplesOf c o) n new → sending 0 n new ≡ sendOf c o old
   unfolding sendOf
   done k n new e z p =
-      let number : sendNumber o (length old) ≡ 0 = sym e ∙ z in
-      let count : n ≡ length (samplesOf o) = omega (arith, p .next-place) in
-      let buffer = put-filled (admitted o _ number .enough) p in
+      let number : sendNumber c o (length old) ≡ 0 = sym e ∙ z in
+      let count : n ≡ length (samplesOf c o) = omega (arith, p .next-place) in
+      let buffer = put-filled (admitted c o _ number .enough) p in
       yes _ (eq-eqb _ _ number) (cc)
 
-  pub refused : (k : ℕ) → k ≡ sendNumber o (length old) → (k ≡ 0 → ⊥) → sending k 0 old ≡ sendOf o old
+  pub refused : (k : ℕ) → k ≡ sendNumber c o (length old) → (k ≡ 0 → ⊥) → sending k 0 old ≡ sendOf c o old
   unfolding sendOf
   refused k e h = rw (← e) (no _ (ne-eqb _ _ h) refl)
+
+-- what is sent to an older chip does not depend on its part
+pub either-part : (part other : Part) (top : ℕ) (o : Order) (old : List ℕ) → sendOf (Older part top) o old ≡ sendOf (Older other top) o old
+unfolding sendOf sendNumber samplesOf orderBits
+either-part part other top o old = refl

@@ -1,19 +1,24 @@
 -- How the samples of a run come apart into those of its bytes.
-use mathlib.Core.Path.{_≡_, refl, sym, _∙_}
+use mathlib.Core.Path.{_≡_, refl, sym, ap, _∙_}
 use mathlib.Core.Bool.{Bool, true, false, cond}
 use mathlib.Core.List.{List, [], _++_, append-assoc}
-use Prim.Native.Nat.{ℕ, _+_, _-_, _<_, _≤_}
+use Prim.Native.Nat.{ℕ, zero, suc, _+_, _-_, _*_, _<_, _≤_}
 use native.Mathlib.Omega.{arith}
 use native.Mathlib.Numerals.{add-one}
 use lib.ListN.{length, getD, drop, getD-replicate, drop-of-length-le}
 use lib.Seq.{drop-cons}
+use Rattle.bits.specs.Bits.{bitAt}
 use Rattle.bits.proofs.Putting.{Splits}
 use Rattle.settings.specs.Settings.{nextAddress}
+use Rattle.chip.specs.Chip.{isNewer}
+use Rattle.chip.specs.declared.Chip.{Chip}
+use Rattle.chip.specs.declared.Part.the-variants.{Ad9557}
+use Rattle.chip.specs.declared.Chip.the-variants.{Newer, Older}
 use Rattle.sender.specs.declared.Run.{Run}
-use Rattle.order.specs.Order.{Order, runFrom, sentOf}
-use Rattle.order.specs.Samples.{bitsOf, instructionOf, byteBits, runBits, orderBits, clocked, samplesOf}
-use Rattle.sender.specs.Run.{runOf, openingSamples, byteSamples, runSamples, closingSamples}
-use Rattle.order.proofs.Laws.{clocked-append, length-clocked, length-byte-bits, length-sent}
+use Rattle.order.specs.Order.{Order, order, isRead, runFrom, sentOf, sentBytes}
+use Rattle.order.specs.Samples.{bitsOf, instructionOf, lengthBits, lengthAndAddress, byteBits, runBits, orderBits, clocked, samplesOf}
+use Rattle.sender.specs.Run.{runOf, openingSamples, byteSamples, runSamples, closingSamples, wholeSamples}
+use Rattle.order.proofs.Laws.{clocked-append, length-clocked, length-byte-bits, length-samples, length-sent}
 
 -- the samples of a byte: with single instruction its own instruction goes before it
 module _ (r : Run) (a v : ℕ) where
@@ -53,17 +58,39 @@ no-more-bytes r a k i bytes l h =
     let hv : length vs ≤ i = omega (arith, length-sent (r .read) k bytes l) in
     rw (drop-of-length-le vs hv)
 
--- all samples of an order: the opening, the bytes, and the closing
-module _ (o : Order) (r : Run) where
-  abbrev pub allBytes : List ℕ
-  allBytes = runSamples r (o .start) (sentOf (r .read) (o .count) (o .bytes))
-
-  pub opening-first : r ≡ runOf o → Splits (samplesOf o) (openingSamples r (o .start)) (allBytes ++ closingSamples)
-  unfolding samplesOf orderBits
-  opening-first e = record { split = rw (e, clocked-append, append-assoc) }
-
-  pub bytes-next : Splits (allBytes ++ closingSamples) allBytes closingSamples
-  bytes-next = record { split = refl }
-
+-- the closing is the end
 pub closing-last : Splits closingSamples closingSamples []
 closing-last = record { split = refl }
+
+-- those of an order are those of its run
+pub order-samples : (c : Chip) (o : Order) (r : Run) (x : ℕ) → r ≡ runOf c o → x ≡ lengthAndAddress c (o .count) (o .start)
+    → wholeSamples r x (o .start) (sentBytes o) ≡ samplesOf c o
+unfolding samplesOf orderBits
+order-samples c o r x e l = rw (e, l, clocked-append, append-assoc)
+
+-- LSB first times 3 is LSB first and ascending
+times-three : (s : ℕ) → s ≤ 1 → (bitAt (s * 3) 0 ≡ bitAt s 0) × (bitAt (s * 3) 1 ≡ bitAt s 0) × (bitAt (s * 3) 2 ≡ false)
+unfolding bitAt
+times-three zero h = (refl, refl, refl)
+times-three (suc zero) h = (refl, refl, refl)
+times-three (suc (suc s)) h = absurd (omega arith)
+
+-- An older chip's run is that of a newer chip which ascends with LSB first, with its length over the address.
+module _ (o : Order) (x : ℕ) (h : o .settings ≤ 1) (l : x ≡ lengthBits (o .count) * 0x2000 + o .start) where
+  abbrev pub olderRun : Run
+  olderRun = runOf Newer (order (o .direction) (o .settings * 3) (o .start) (o .count) [])
+
+  abbrev pub olderSamples : List ℕ
+  olderSamples = wholeSamples olderRun x (o .start) (sentBytes o)
+
+  older-run : (c : Chip) → isNewer c ≡ false → olderRun ≡ runOf c o
+  older-run c e = let b = times-three (o .settings) h in rw (e, b .0, b .1, b .2)
+
+  pub older-samples : (c : Chip) → isNewer c ≡ false → olderSamples ≡ samplesOf c o
+  older-samples c e = order-samples c o olderRun x (older-run c e) (rw e l)
+
+  pub length-older : length (o .bytes) ≡ cond (isRead o) 0 (o .count) → length olderSamples ≡ 35 + 16 * o .count
+  length-older d =
+      ap length (older-samples (Older Ad9557 0) refl)
+      ∙ length-samples (Older Ad9557 0) o
+      ∙ ap (λ (k : ℕ). 35 + 16 * k) (length-sent (isRead o) (o .count) (o .bytes) d)

@@ -5,6 +5,7 @@ use mathlib.Core.List.{List}
 use lib.ListN.{length}
 use lib.Dec.{eqb}
 use Rattle.bits.specs.Buffer.{filled}
+use Rattle.chip.specs.declared.Chip.{Chip}
 use Rattle.order.specs.Order.{Order}
 use Rattle.order.specs.Samples.{samplesOf}
 use Rattle.order.specs.Number.{sendNumber}
@@ -18,9 +19,9 @@ pub record Sending : Type 0 where
 abbrev pub sending : ℕ → ℕ → List ℕ → Sending
 sending number count samples = record { number = number; count = count; samples = samples }
 
--- A call of the sender, on an order and a lent buffer.
-unfoldable pub sendOf : Order → List ℕ → Sending
-sendOf o buffer =
-    cond (eqb (sendNumber o (length buffer)) 0)
-    (sending 0 (length (samplesOf o)) (filled (samplesOf o) buffer))
-    (sending (sendNumber o (length buffer)) 0 buffer)
+-- A call of the sender, for a chip, on an order and a lent buffer.
+unfoldable pub sendOf : Chip → Order → List ℕ → Sending
+sendOf c o buffer =
+    cond (eqb (sendNumber c o (length buffer)) 0)
+    (sending 0 (length (samplesOf c o)) (filled (samplesOf c o) buffer))
+    (sending (sendNumber c o (length buffer)) 0 buffer)

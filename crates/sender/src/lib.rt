@@ -2,13 +2,17 @@
 ghost use mathlib.Core.Path.{_≡_};
 ghost use mathlib.Core.List.{[]};
 ghost use Prim.Native.Nat.{_≤_};
+ghost use Rattle.chip.specs.declared.Chip.the-variants.{Newer};
 ghost use Rattle.order.specs.Order.{order, withData};
 ghost use Rattle.sender.specs.Calls.{sending, sendOf};
 ghost use Rattle.sender.specs.Run.{runOf};
 
+mod older;
 mod samples;
 
 use bits::bit_at;
+use chip::Chip;
+pub use older::send_older;
 use order::Order;
 use order::number_of;
 pub use samples::put_samples;
@@ -30,7 +34,7 @@ struct Run {
 // The run of an order, by its direction and its settings number.
 fn run_of(order: Order) -> Run
     requires { ⌜ order .settings ≤ 7 ⌝ }
-    ensures { λ r. ⌜ r ≡ runOf (withData order []) ⌝ }
+    ensures { λ r. ⌜ r ≡ runOf Newer (withData order []) ⌝ }
 {
     let s = order.settings as u8;
     Run {
@@ -41,7 +45,7 @@ fn run_of(order: Order) -> Run
     }
 }
 
-// Puts the samples of an order at the start of the outgoing buffer. A refusal leaves the buffer as it was.
+// Puts the samples of an order to a newer chip at the start of the outgoing buffer. A refusal leaves the buffer as it was.
 pub fn send(
     direction: u64,
     settings: u64,
@@ -50,7 +54,7 @@ pub fn send(
     data: &[u8],
     out: &mut [u8],
 ) -> Sent
-    ensures { λ r. ⌜ sending (r .number) (r .samples) (now (out .exit)) ≡ sendOf (order direction settings start count (now («data» .entry))) (now (out .entry)) ⌝ }
+    ensures { λ r. ⌜ sending (r .number) (r .samples) (now (out .exit)) ≡ sendOf Newer (order direction settings start count (now («data» .entry))) (now (out .entry)) ⌝ }
 {
     let order = Order {
         direction: direction,
@@ -58,7 +62,7 @@ pub fn send(
         start: start,
         count: count,
     };
-    let number = number_of(order, data, out.len());
+    let number = number_of(Chip::Newer, order, data, out.len());
     if number == 0 {
         let samples = put_samples(order, data, out);
         return Sent {

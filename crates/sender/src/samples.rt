@@ -1,13 +1,15 @@
 // The samples of a run, put into a buffer. Each function here gives the place after what it puts.
 ghost use mathlib.Core.Path.{_≡_};
 ghost use mathlib.Core.Bool.{cond, false};
+ghost use mathlib.Core.List.{[]};
 ghost use Prim.Native.Nat.{_+_, _<_, _≤_};
 ghost use lib.ListN.{length, getD};
 ghost use Rattle.bits.specs.Buffer.{Put};
-ghost use Rattle.order.specs.Order.{withData, sentOf};
+ghost use Rattle.chip.specs.declared.Chip.the-variants.{Newer};
+ghost use Rattle.order.specs.Order.{withData, isRead, sentOf, sentBytes};
 ghost use Rattle.order.specs.Samples.{highFirst, bitsOf, clocked, instructionOf, samplesOf};
 ghost use Rattle.order.specs.Number.{sendNumber};
-ghost use Rattle.sender.specs.Run.{openingSamples, byteSamples, runSamples, closingSamples};
+ghost use Rattle.sender.specs.Run.{runOf, openingSamples, byteSamples, runSamples, closingSamples, wholeSamples};
 use crate::Run;
 use crate::run_of;
 use card::in_order;
@@ -69,12 +71,12 @@ fn put_sixteen(lsb: bool, x: u16, out: &mut [u8], at: usize) -> usize
     put_eight(lsb, first_of(lsb, low, high), out, n)
 }
 
-// The instruction for an address: bit 15 is 1 for read.
-fn instruction(read: bool, address: u16) -> u16
-    requires { ⌜ address < 0x8000 ⌝ }
-    ensures { λ r. ⌜ r ≡ instructionOf read address ⌝ }
+// The instruction of its bits 14 to 0: bit 15 is 1 for read.
+fn instruction(read: bool, lower: u16) -> u16
+    requires { ⌜ lower < 0x8000 ⌝ }
+    ensures { λ r. ⌜ r ≡ instructionOf read lower ⌝ }
 {
-    if read { address + 0x8000 } else { address }
+    if read { lower + 0x8000 } else { lower }
 }
 
 // Puts the samples of one byte, with its own instruction before it in single instruction.
@@ -115,16 +117,16 @@ fn put_run(run: Run, start: u16, count: usize, data: &[u8], out: &mut [u8], at: 
     n
 }
 
-// Puts the first sample, and in streaming the instruction.
-fn put_opening(run: Run, start: u16, out: &mut [u8]) -> usize
-    requires { ⌜ (start < 0x8000) × (length (openingSamples run start) ≤ length (now out)) ⌝ }
-    ensures { λ r. ⌜ Put (now (out .entry)) 0 (openingSamples run start) r (now (out .exit)) ⌝ }
+// Puts the first sample, and but for single instruction the instruction before all bytes, by its bits 14 to 0.
+fn put_opening(run: Run, lower: u16, out: &mut [u8]) -> usize
+    requires { ⌜ (lower < 0x8000) × (length (openingSamples run lower) ≤ length (now out)) ⌝ }
+    ensures { λ r. ⌜ Put (now (out .entry)) 0 (openingSamples run lower) r (now (out .exit)) ⌝ }
 {
     out[0] = 0x00;
     if run.single {
         return 1;
     }
-    put_sixteen(run.lsb, instruction(run.read, start), out, 1)
+    put_sixteen(run.lsb, instruction(run.read, lower), out, 1)
 }
 
 // Puts the last two samples: SCLK low, and CSB high.
@@ -137,14 +139,30 @@ fn put_closing(out: &mut [u8], at: usize) -> usize
     at + 2
 }
 
-// Puts all samples of an order that is not refused, at the start of the buffer.
-pub fn put_samples(order: Order, data: &[u8], out: &mut [u8]) -> usize
-    requires { ⌜ sendNumber (withData order (now «data»)) (length (now out)) ≡ 0 ⌝ }
-    ensures { λ r. ⌜ Put (now (out .entry)) 0 (samplesOf (withData order (now («data» .entry)))) r (now (out .exit)) ⌝ }
+// Puts all samples of a run at the start of the buffer, with bits 14 to 0 of the instruction before it.
+pub fn put_all(order: Order, lower: u16, data: &[u8], out: &mut [u8]) -> usize
+    requires { ⌜ (order .settings ≤ 7) × (order .start < 0x8000) × (lower < 0x8000) ⌝ }
+    requires { ⌜ length (now «data») ≡ cond (isRead (withData order [])) 0 (order .count) ⌝ }
+    requires { ⌜ length (wholeSamples (runOf Newer (withData order [])) lower (order .start) (sentBytes (withData order (now «data»)))) ≤ length (now out) ⌝ }
+    ensures { λ r. ⌜ Put (now (out .entry)) 0 (wholeSamples (runOf Newer (withData order [])) lower (order .start) (sentBytes (withData order (now («data» .entry))))) r (now (out .exit)) ⌝ }
 {
     let run = run_of(order);
-    let start = order.start as u16;
-    let first = put_opening(run, start, out);
-    let last = put_run(run, start, order.count as usize, data, out, first);
+    let first = put_opening(run, lower, out);
+    let last = put_run(
+        run,
+        order.start as u16,
+        order.count as usize,
+        data,
+        out,
+        first,
+    );
     put_closing(out, last)
+}
+
+// Puts all samples of an order to a newer chip that is not refused, at the start of the buffer.
+pub fn put_samples(order: Order, data: &[u8], out: &mut [u8]) -> usize
+    requires { ⌜ sendNumber Newer (withData order (now «data»)) (length (now out)) ≡ 0 ⌝ }
+    ensures { λ r. ⌜ Put (now (out .entry)) 0 (samplesOf Newer (withData order (now («data» .entry)))) r (now (out .exit)) ⌝ }
+{
+    put_all(order, order.start as u16, data, out)
 }

@@ -1,53 +1,77 @@
--- A sound session is of one of three forms, and each sample leads from a form to a form.
-use Prim.Native.Nat.{ℕ, _^_, _<_}
-use mathlib.Core.Bool.{Bool, true, not}
-use mathlib.Core.Path.{_≡_, refl, sym, subst}
+-- A sound session is of one of five forms, the last two on older chips alone, and each sample leads from a form to a form.
+use Prim.Native.Nat.{ℕ, zero, suc, _+_, _-_, _/_, _%_, _^_, _<_, _≤_}
+use mathlib.Core.Bool.{Bool, true, false, cond, not, _&&_, _||_, true≢false, false≢true}
+use mathlib.Core.Path.{_≡_, refl, sym, subst, ap, _∙_}
 use native.Mathlib.Omega.{arith}
-use lib.Dec.{lit<, ltb}
-use borrow.Author.Tests.{ltb-true, lt-ltb, leb-true, le-leb, eqb-true, not-true, not-false}
+use lib.Dec.{lit<, ltb, leb, eqb}
+use borrow.Author.Tests.{ltb-true, lt-ltb, lt-leb, leb-true, le-leb, eqb-true, eqb-false, ne-eqb, not-true}
 use Rattle.bits.specs.Tests.{every}
-use Rattle.bits.proofs.Cases.{each, AllTrue, every-true}
+use Rattle.bits.proofs.Cases.{each, and-left, and-right, or-left, or-right, AllTrue, every-true}
 use Rattle.bits.proofs.Laws.{shifted-lt}
+use Rattle.chip.specs.declared.Chip.{Chip}
+use Rattle.chip.specs.declared.Chip.the-variants.{Newer, Older}
+use Rattle.chip.specs.Chip.{isNewer}
 use Rattle.settings.specs.declared.Settings.{Settings}
 use Rattle.settings.specs.declared.InUse.{InUse}
-use Rattle.settings.specs.Settings.{inUseOf}
+use Rattle.settings.specs.Settings.{inUseOf, nextAddress}
 use Rattle.settings.proofs.Laws.{next-lt}
 use Rattle.session.specs.declared.Phase.{Phase}
 use Rattle.session.specs.declared.Phase.the-variants.{Rest, Instruction, Data}
 use Rattle.session.specs.declared.Session.{Session}
-use Rattle.session.specs.State.{resting, instructing, inData, soundTests, soundSession}
-use Rattle.session.specs.Step.{csbOf, sclkOf, sdioOf, takesBit, valueWith, withInstructionBit, settingsOnByte, afterByte, withDataBit, dataLine, stepOf}
+use Rattle.session.specs.State.{noneInUse, resting, instructing, inData, passing, isCounted, mayStall, lengthGood, zeroTests, soundTests, soundSession}
+use Rattle.session.specs.Step.{csbOf, sclkOf, sdioOf, takesBit, valueWith, entered, withInstructionBit, usedOn, runEnds, settingsOnByte, afterByte, withDataBit, dataLine, stepOf}
 
-pub data Form : Session → Type 0 where
-  rests : (sclk : Bool) (t : Settings) → Form (resting sclk t)
+-- before a data byte of a counted run, with the select high
+abbrev pub stalled : Bool → ℕ → Bool → ℕ → Settings → InUse → Session
+stalled sclk address read left t u = record {
+  csb = true;
+  sclk = sclk;
+  phase = Data;
+  bits = 0;
+  value = 0;
+  address = address;
+  read = read;
+  left = left;
+  settings = t;
+  used = u;
+}
+
+pub data Form (c : Chip) : Session → Type 0 where
+  rests : (sclk : Bool) (t : Settings) → Form c (resting sclk t)
   instructs : (sclk : Bool) (bits value : ℕ) (t : Settings) (u : InUse)
-      → bits < 16 → value < 2 ^ bits → Form (instructing sclk bits value t u)
-  has-data : (sclk : Bool) (bits value address : ℕ) (read : Bool) (t : Settings) (u : InUse)
-      → bits < 8 → value < 2 ^ bits → address < 0x8000 → Form (inData sclk bits value address read t u)
+      → bits < 16 → value < 2 ^ bits → Form c (instructing sclk bits value t u)
+  has-data : (sclk : Bool) (bits value address : ℕ) (read : Bool) (left : ℕ) (t : Settings) (u : InUse)
+      → bits < 8 → value < 2 ^ bits → address < 0x8000 → lengthGood c left address ≡ true → Form c (inData sclk bits value address read left t u)
+  stalls : (sclk : Bool) (address : ℕ) (read : Bool) (left : ℕ) (t : Settings) (u : InUse)
+      → address < 0x8000 → isCounted left ≡ true → lengthGood c left address ≡ true → Form c (stalled sclk address read left t u)
+  passes : (sclk : Bool) (t : Settings) → isNewer c ≡ false → Form c (passing sclk t)
 
 -- the tests of a sound session in its phase
-tests : (s : Session) → soundSession s ≡ true → (p : Phase) → s .phase ≡ p → AllTrue (soundTests p s)
+tests : (c : Chip) (s : Session) → soundSession c s ≡ true → (p : Phase) → s .phase ≡ p → AllTrue (soundTests c p s)
 unfolding soundSession
-tests s h p e = every-true (soundTests p s) (subst (λ (q : Phase). every (soundTests q s) ≡ true) e h)
+tests c s h p e = every-true (soundTests c p s) (subst (λ (q : Phase). every (soundTests c q s) ≡ true) e h)
 
-pub form-sound : {s : Session} → Form s → soundSession s ≡ true
+pub form-sound : {c : Chip} {s : Session} → Form c s → soundSession c s ≡ true
 unfolding soundSession every
 form-sound (rests k t) = refl
 form-sound (instructs k n v t u h g) = simp (le-leb n 15 (omega arith), lt-ltb v (2 ^ n) g)
-form-sound (has-data k n v a r t u h g f) = simp (le-leb n 7 (omega arith), lt-ltb v (2 ^ n) g, le-leb a 0x7FFF (omega arith))
+form-sound (has-data k n v a r l t u h g f d) = simp (le-leb n 7 (omega arith), lt-ltb v (2 ^ n) g, le-leb a 0x7FFF (omega arith), d)
+form-sound (stalls k a r l t u f e d) = simp (le-leb a 0x7FFF (omega arith), e, d)
+form-sound (passes k t e) = rw e refl
 
--- at rest all but SCLK and the settings is fixed
-pub rest-form : (s : Session) → soundSession s ≡ true → s .phase ≡ Rest → s ≡ resting (s .sclk) (s .settings)
-rest-form s h e =
-    let q = tests s h Rest e in
+-- where all but the levels, the phase and the settings is zero
+zeros : (s : Session) → AllTrue (zeroTests s) → {csb : Bool} {p : Phase} → s .csb ≡ csb → s .phase ≡ p
+    → s ≡ record { csb = csb; sclk = s .sclk; phase = p; bits = 0; value = 0; address = 0; read = false; left = 0; settings = s .settings; used = noneInUse }
+zeros s q b e =
     λ i. record {
-      csb = q .0 i;
+      csb = b i;
       sclk = s .sclk;
       phase = e i;
-      bits = eqb-true (s .bits) 0 (q .1 .0) i;
-      value = eqb-true (s .value) 0 (q .1 .1 .0) i;
-      address = eqb-true (s .address) 0 (q .1 .1 .1 .0) i;
-      read = not-true (s .read) (q .1 .1 .1 .1 .0) i;
+      bits = eqb-true (s .bits) 0 (q .0) i;
+      value = eqb-true (s .value) 0 (q .1 .0) i;
+      address = eqb-true (s .address) 0 (q .1 .1 .0) i;
+      read = not-true (s .read) (q .1 .1 .1 .0) i;
+      left = eqb-true (s .left) 0 (q .1 .1 .1 .1 .0) i;
       settings = s .settings;
       used = record {
         lsb = not-true (s .used .lsb) (q .1 .1 .1 .1 .1 .0) i;
@@ -57,13 +81,21 @@ rest-form s h e =
       };
     }
 
-pub sound-form : (s : Session) → soundSession s ≡ true → Form s
-sound-form s h = go (s .phase) refl
+-- at rest all but SCLK and the settings is fixed
+pub rest-form : (c : Chip) (s : Session) → soundSession c s ≡ true → s .phase ≡ Rest → s .csb ≡ true → s ≡ resting (s .sclk) (s .settings)
+rest-form c s h e b = zeros s (tests c s h Rest e .1) b e
+
+pub sound-form : (c : Chip) (s : Session) → soundSession c s ≡ true → Form c s
+sound-form c s h = go (s .phase) refl
   where
-    go : (p : Phase) → s .phase ≡ p → Form s
-    go Rest e = subst Form (sym (rest-form s h e)) (rests (s .sclk) (s .settings))
+    go : (p : Phase) → s .phase ≡ p → Form c s
+    go Rest e = by-level (s .csb) refl (tests c s h Rest e .0)
+      where
+        by-level : (b : Bool) → s .csb ≡ b → (b || not (isNewer c)) ≡ true → Form c s
+        by-level true g o = subst (Form c) (sym (rest-form c s h e g)) (rests (s .sclk) (s .settings))
+        by-level false g o = subst (Form c) (sym (zeros s (tests c s h Rest e .1) g e)) (passes (s .sclk) (s .settings) (not-true (isNewer c) o))
     go Instruction e =
-        let q = tests s h Instruction e in
+        let q = tests c s h Instruction e in
         let same : s ≡ instructing (s .sclk) (s .bits) (s .value) (s .settings) (s .used) =
         λ i. record {
           csb = not-true (s .csb) (q .0) i;
@@ -73,60 +105,169 @@ sound-form s h = go (s .phase) refl
           value = s .value;
           address = eqb-true (s .address) 0 (q .1 .1 .1 .0) i;
           read = not-true (s .read) (q .1 .1 .1 .1 .0) i;
+          left = eqb-true (s .left) 0 (q .1 .1 .1 .1 .1 .0) i;
           settings = s .settings;
           used = s .used;
         } in
-        subst Form (sym same)
+        subst (Form c) (sym same)
         (instructs (s .sclk) (s .bits) (s .value) (s .settings) (s .used)
         (omega (arith, leb-true (s .bits) 15 (q .1 .0))) (ltb-true (s .value) (2 ^ s .bits) (q .1 .1 .0)))
     go Data e =
-        let q = tests s h Data e in
-        let same : s ≡ inData (s .sclk) (s .bits) (s .value) (s .address) (s .read) (s .settings) (s .used) =
-        λ i. record {
-          csb = not-true (s .csb) (q .0) i;
-          sclk = s .sclk;
-          phase = e i;
-          bits = s .bits;
-          value = s .value;
-          address = s .address;
-          read = s .read;
-          settings = s .settings;
-          used = s .used;
-        } in
-        subst Form (sym same)
-        (has-data (s .sclk) (s .bits) (s .value) (s .address) (s .read) (s .settings) (s .used)
-        (omega (arith, leb-true (s .bits) 7 (q .1 .0))) (ltb-true (s .value) (2 ^ s .bits) (q .1 .1 .0))
-        (omega (arith, leb-true (s .address) 0x7FFF (q .1 .1 .1 .0))))
+        let q = tests c s h Data e in
+        let near : s .address < 0x8000 = omega (arith, leb-true (s .address) 0x7FFF (q .1 .1 .1 .0)) in
+        let small = ltb-true (s .value) (2 ^ s .bits) (q .1 .1 .0) in
+        by-csb (s .csb) refl (q .0) (omega (arith, leb-true (s .bits) 7 (q .1 .0))) small near (q .1 .1 .1 .1 .0)
+      where
+        by-csb : (b : Bool) → s .csb ≡ b → (not b || mayStall s) ≡ true → s .bits < 8 → s .value < 2 ^ s .bits → s .address < 0x8000
+            → lengthGood c (s .left) (s .address) ≡ true → Form c s
+        by-csb false g o few small near d =
+            let same : s ≡ inData (s .sclk) (s .bits) (s .value) (s .address) (s .read) (s .left) (s .settings) (s .used) =
+            λ i. record {
+              csb = g i;
+              sclk = s .sclk;
+              phase = e i;
+              bits = s .bits;
+              value = s .value;
+              address = s .address;
+              read = s .read;
+              left = s .left;
+              settings = s .settings;
+              used = s .used;
+            } in
+            subst (Form c) (sym same)
+            (has-data (s .sclk) (s .bits) (s .value) (s .address) (s .read) (s .left) (s .settings) (s .used) few small near d)
+        by-csb true g o few small near d =
+            let none = eqb-true (s .bits) 0 (and-right (isCounted (s .left)) (eqb (s .bits) 0) o) in
+            let zero : s .value ≡ 0 = omega (arith, rw none at small) in
+            let same : s ≡ stalled (s .sclk) (s .address) (s .read) (s .left) (s .settings) (s .used) =
+            λ i. record {
+              csb = g i;
+              sclk = s .sclk;
+              phase = e i;
+              bits = none i;
+              value = zero i;
+              address = s .address;
+              read = s .read;
+              left = s .left;
+              settings = s .settings;
+              used = s .used;
+            } in
+            subst (Form c) (sym same)
+            (stalls (s .sclk) (s .address) (s .read) (s .left) (s .settings) (s .used) near (and-left (isCounted (s .left)) (eqb (s .bits) 0) o) d)
 
-form-instruction : (s : Session) (b : Bool) → s .bits < 16 → s .value < 2 ^ s .bits → Form (withInstructionBit s b)
+-- two length bits make 1 to 4
+length-bits : (n : ℕ) → n < 4 → (isCounted (n + 1) || eqb (n + 1) 4) ≡ true
+length-bits zero h = refl
+length-bits (suc zero) h = refl
+length-bits (suc (suc zero)) h = refl
+length-bits (suc (suc (suc zero))) h = refl
+length-bits (suc (suc (suc (suc n)))) h = absurd (omega arith)
+
+form-entered : (c : Chip) (v : ℕ) (t : Settings) (u : InUse) → Form c (entered c v t u)
+unfolding entered
+form-entered Newer v t u = has-data true _ _ (v % 0x8000) _ _ _ _ (lit< tt) (lit< tt) (omega arith) refl
+form-entered (Older part top) v t u =
+    each (Form (Older part top)) (leb (v % 0x2000) top)
+    (λ e. has-data true _ _ (v % 0x2000) _ _ _ _ (lit< tt) (lit< tt) (omega arith) (rw (length-bits (v / 0x2000 % 4) (omega arith)) e))
+    (λ e. passes true t refl)
+
+form-instruction : (c : Chip) (s : Session) (b : Bool) → s .bits < 16 → s .value < 2 ^ s .bits → Form c (withInstructionBit c s b)
 unfolding withInstructionBit
-form-instruction s b h g =
-    each Form (ltb (s .bits) 15)
+form-instruction c s b h g =
+    each (Form c) (ltb (s .bits) 15)
     (λ e. instructs true _ _ _ _ (omega (arith, ltb-true (s .bits) 15 e))
     (shifted-lt (s .used .lsb) (s .value) (s .bits) b g))
-    (λ e. has-data true _ _ _ _ _ _ (lit< tt) (lit< tt) (omega arith))
+    (λ e. form-entered c (valueWith s b) (s .settings) (s .used))
 
-form-after : (s : Session) (t : Settings) → Form (afterByte s t)
-form-after s t =
-    each Form (s .used .single) (λ e. instructs true _ _ _ _ (lit< tt) (lit< tt))
-    (λ e. has-data true _ _ _ _ _ _ (lit< tt) (lit< tt) (next-lt (s .used .ascending) (s .address)))
+-- the bytes left of a run, after one of them
+abbrev pub leftAfter : ℕ → ℕ
+leftAfter left = cond (isCounted left) (left - 1) left
 
-form-data : (s : Session) (b : Bool) → s .bits < 8 → s .value < 2 ^ s .bits → s .address < 0x8000 → Form (withDataBit s b)
+-- a run that does not end has a byte to come
+left-after : (l : ℕ) → (isCounted l || eqb l 4) ≡ true → eqb l 1 ≡ false → (isCounted (leftAfter l) || eqb (leftAfter l) 4) ≡ true
+left-after zero h g = h
+left-after (suc zero) h g = absurd (true≢false g)
+left-after (suc (suc zero)) h g = refl
+left-after (suc (suc (suc zero))) h g = refl
+left-after (suc (suc (suc (suc zero)))) h g = refl
+left-after (suc (suc (suc (suc (suc l))))) h g =
+    let n = suc (suc (suc (suc (suc l)))) in
+    absurd (false≢true (rw (le-leb 1 n (omega arith), lt-leb n 3 (omega arith), ne-eqb n 4 (λ (z : n ≡ 4). omega arith)) at h))
+
+-- the next address of a run that does not end is up to the top
+next-top : (up : Bool) (a top : ℕ) → a ≤ top → eqb a (cond up top 0) ≡ false → nextAddress up a ≤ top
+next-top true a top h g = let d = eqb-false a top g in omega (arith, d)
+next-top false a top h g = let d = eqb-false a 0 g in omega (arith, d)
+
+-- data goes on
+length-next : (c : Chip) (s : Session) → lengthGood c (s .left) (s .address) ≡ true → runEnds c s ≡ false
+    → lengthGood c (leftAfter (s .left)) (nextAddress (usedOn c s .ascending) (s .address)) ≡ true
+length-next Newer s d e = let z = eqb-true (s .left) 0 d in rw z refl
+length-next (Older part top) s d e =
+    let l : (isCounted (s .left) || eqb (s .left) 4) ≡ true = and-left _ (leb (s .address) top) d in
+    let a = leb-true (s .address) top (and-right (isCounted (s .left) || eqb (s .left) 4) _ d) in
+    rw (left-after (s .left) l (or-left _ _ e))
+    (le-leb _ top (next-top (s .used .lsb) (s .address) top a (or-right (eqb (s .left) 1) _ e)))
+
+-- only an older chip's run ends
+older-ends : (c : Chip) (s : Session) → runEnds c s ≡ true → isNewer c ≡ false
+older-ends Newer s e = absurd (false≢true e)
+older-ends (Older part top) s e = refl
+
+form-after : (c : Chip) (s : Session) (t : Settings) → lengthGood c (s .left) (s .address) ≡ true → Form c (afterByte c s t)
+form-after c s t d =
+    each (Form c) (usedOn c s .single) (λ e. instructs true _ _ _ _ (lit< tt) (lit< tt))
+    (λ e. each (Form c) (runEnds c s) (λ f. passes true t (older-ends c s f))
+    (λ f. has-data true _ _ _ _ _ _ _ (lit< tt) (lit< tt) (next-lt (usedOn c s .ascending) (s .address)) (length-next c s d f)))
+
+form-data : (c : Chip) (s : Session) (b : Bool) → s .bits < 8 → s .value < 2 ^ s .bits → s .address < 0x8000
+    → lengthGood c (s .left) (s .address) ≡ true → Form c (withDataBit c s b)
 unfolding withDataBit
-form-data s b h g f =
-    each Form (ltb (s .bits) 7)
-    (λ e. has-data true _ _ _ _ _ _ (omega (arith, ltb-true (s .bits) 7 e))
-    (shifted-lt (s .used .lsb) (s .value) (s .bits) b g) f)
-    (λ e. form-after s (settingsOnByte s (valueWith s b)))
+form-data c s b h g f d =
+    each (Form c) (ltb (s .bits) 7)
+    (λ e. has-data true _ _ _ _ _ _ _ (omega (arith, ltb-true (s .bits) 7 e))
+    (shifted-lt (s .used .lsb) (s .value) (s .bits) b g) f d)
+    (λ e. form-after c s (settingsOnByte c s (valueWith s b)) d)
 
-pub form-step : {s : Session} → Form s → (x : ℕ) → Form (stepOf s x)
+-- a run that is counted has a byte left
+some-left : (l : ℕ) → isCounted l ≡ true → eqb l 0 ≡ false
+some-left zero e = absurd (false≢true e)
+some-left (suc l) e = ne-eqb (suc l) 0 (λ (z : suc l ≡ 0). omega arith)
+
+pub form-step : {c : Chip} {s : Session} → Form c s → (x : ℕ) → Form c (stepOf c s x)
 unfolding stepOf
-form-step (rests k t) x =
-    each Form (not (csbOf x)) (λ e. instructs (sclkOf x) 0 0 t (inUseOf t) (lit< tt) (lit< tt))
-    (λ e. rw (not-false (csbOf x) e) (rests (sclkOf x) t))
-form-step {s} (instructs k n v t u h g) x =
-    each Form (takesBit s x) (λ e. form-instruction s (sdioOf x) h g)
-    (λ e. each Form (csbOf x) (λ e. rests (sclkOf x) t) (λ e. rw e (instructs (sclkOf x) n v t u h g)))
-form-step {s} (has-data k n v a r t u h g f) x =
-    each Form (takesBit s x) (λ e. form-data s (dataLine s x) h g f)
-    (λ e. each Form (csbOf x) (λ e. rests (sclkOf x) t) (λ e. rw e (has-data (sclkOf x) n v a r t u h g f)))
+form-step {c} (rests k t) x = by-csb (csbOf x) refl
+  where
+    by-csb : (b : Bool) → csbOf x ≡ b → Form c (stepOf c (resting k t) x)
+    by-csb true e = rw e (rests (sclkOf x) t)
+    by-csb false e = rw e (instructs (sclkOf x) 0 0 t (inUseOf t) (lit< tt) (lit< tt))
+form-step {c} {s} (instructs k n v t u h g) x =
+    each (Form c) (takesBit s x) (λ e. form-instruction c s (sdioOf x) h g)
+    (λ e. by-csb (csbOf x) refl)
+  where
+    by-csb : (b : Bool) → csbOf x ≡ b → Form c (cond (csbOf x && true) (resting (sclkOf x) t) (record { csb = csbOf x; sclk = sclkOf x; phase = Instruction; bits = n; value = v; address = 0; read = false; left = 0; settings = t; used = u }))
+    by-csb true e = rw e (rests (sclkOf x) t)
+    by-csb false e = rw e (instructs (sclkOf x) n v t u h g)
+form-step {c} {s} (has-data k n v a r l t u h g f d) x =
+    each (Form c) (takesBit s x) (λ e. form-data c s (dataLine c s x) h g f d)
+    (λ e. by-csb (csbOf x) (mayStall s) refl refl)
+  where
+    by-csb : (b o : Bool) → csbOf x ≡ b → mayStall (inData k n v a r l t u) ≡ o
+        → Form c (cond (csbOf x && not (mayStall (inData k n v a r l t u))) (resting (sclkOf x) t)
+        (record { csb = csbOf x; sclk = sclkOf x; phase = Data; bits = n; value = v; address = a; read = r; left = l; settings = t; used = u }))
+    by-csb true true e o =
+        let z = eqb-true n 0 (and-right (isCounted l) (eqb n 0) o) in
+        let w : v ≡ 0 = omega (arith, rw z at g) in
+        rw (e, o, z, w) (stalls (sclkOf x) a r l t u f (and-left (isCounted l) (eqb n 0) o) d)
+    by-csb true false e o = rw (e, o) (rests (sclkOf x) t)
+    by-csb false o e q = rw e (has-data (sclkOf x) n v a r l t u h g f d)
+form-step {c} (stalls k a r l t u f e d) x = by-csb (csbOf x) refl
+  where
+    by-csb : (b : Bool) → csbOf x ≡ b → Form c (stepOf c (stalled k a r l t u) x)
+    by-csb true g = rw g (stalls (sclkOf x) a r l t u f e d)
+    by-csb false g = rw (g, some-left l e) (has-data (sclkOf x) 0 0 a r l t u (lit< tt) (lit< tt) f d)
+form-step {c} (passes k t e) x = by-csb (csbOf x) refl
+  where
+    by-csb : (b : Bool) → csbOf x ≡ b → Form c (stepOf c (passing k t) x)
+    by-csb true g = rw g (rests (sclkOf x) t)
+    by-csb false g = rw g (each (Form c) (not k && sclkOf x) (λ h. passes (sclkOf x) t e) (λ h. passes (sclkOf x) t e))

@@ -1,39 +1,36 @@
 -- A sound session is fit, and each sample keeps it sound; what is known of a session at rest, and of a byte of data.
-use Prim.Native.Nat.{ℕ, _+_, _^_, _<_}
+use Prim.Native.Nat.{ℕ, _+_, _%_, _^_, _<_}
 use mathlib.Core.Bool.{Bool, true, false, false≢true}
 use mathlib.Core.Path.{_≡_, refl}
 use native.Mathlib.Omega.{arith}
 use native.Mathlib.Nat.{lt-of-lt-of-le}
-use lib.Dec.{lit<}
+use lib.Dec.{lit<, leb}
 use lib.Pow.{pow-mono}
+use Rattle.bits.proofs.Cases.{each}
 use Rattle.bits.proofs.Laws.{shifted-lt}
+use Rattle.chip.specs.declared.Chip.{Chip}
+use Rattle.chip.specs.declared.Chip.the-variants.{Newer, Older}
+use Rattle.settings.specs.declared.Settings.{Settings}
+use Rattle.settings.specs.declared.InUse.{InUse}
 use Rattle.session.specs.declared.Phase.{Phase}
 use Rattle.session.specs.declared.Phase.the-variants.{Rest, Instruction, Data}
 use Rattle.session.specs.declared.Session.{Session}
-use Rattle.session.specs.State.{soundSession, isRest, widthOf, Fit}
-use Rattle.session.specs.Step.{valueWith, stepOf}
-use Rattle.session.specs.Event.{isData}
-use Rattle.session.proofs.Form.{Form, rests, instructs, has-data, form-sound, sound-form, form-step}
+use Rattle.session.specs.State.{isData, soundSession, widthOf, Fit}
+use Rattle.session.specs.Step.{valueWith, entered, stepOf}
+use Rattle.session.proofs.Form.{Form, rests, instructs, has-data, stalls, passes, form-sound, sound-form, form-step}
 
-fit-form : {s : Session} → Form s → Fit s
+fit-form : {c : Chip} {s : Session} → Form c s → Fit s
 fit-form (rests k t) = record { unfinished = lit< tt; small = lit< tt; near = lit< tt }
 fit-form (instructs k n v t u h g) = record { unfinished = h; small = g; near = lit< tt }
-fit-form (has-data k n v a r t u h g f) = record { unfinished = h; small = g; near = f }
+fit-form (has-data k n v a r l t u h g f d) = record { unfinished = h; small = g; near = f }
+fit-form (stalls k a r l t u f e d) = record { unfinished = lit< tt; small = lit< tt; near = f }
+fit-form (passes k t e) = record { unfinished = lit< tt; small = lit< tt; near = lit< tt }
 
-pub fit-sound : (s : Session) → soundSession s ≡ true → Fit s
-fit-sound s h = fit-form (sound-form s h)
+pub fit-sound : (c : Chip) (s : Session) → soundSession c s ≡ true → Fit s
+fit-sound c s h = fit-form (sound-form c s h)
 
-pub sound-step : (s : Session) (x : ℕ) → soundSession s ≡ true → soundSession (stepOf s x) ≡ true
-sound-step s x h = form-sound (form-step (sound-form s h) x)
-
-form-rest : {s : Session} → Form s → isRest (s .phase) ≡ s .csb
-form-rest (rests k t) = refl
-form-rest (instructs k n v t u h g) = refl
-form-rest (has-data k n v a r t u h g f) = refl
-
--- at rest exactly when CSB is high
-pub rest-high : (s : Session) → soundSession s ≡ true → isRest (s .phase) ≡ s .csb
-rest-high s h = form-rest (sound-form s h)
+pub sound-step : (c : Chip) (s : Session) (x : ℕ) → soundSession c s ≡ true → soundSession c (stepOf c s x) ≡ true
+sound-step c s x h = form-sound (form-step (sound-form c s h) x)
 
 data-bits : (p : Phase) (n : ℕ) → isData p ≡ true → n < widthOf p → n < 8
 data-bits Rest n e h = absurd (false≢true e)
@@ -56,3 +53,9 @@ few-bits Data n h = omega arith
 -- a fit session has room for one more bit
 pub room-for-bit : (s : Session) → Fit s → (s .bits < 16) × (s .value < 2 ^ s .bits)
 room-for-bit s f = (few-bits (s .phase) (s .bits) (f .unfinished), f .small)
+
+-- a whole instruction changes no setting
+pub entered-settings : (c : Chip) (v : ℕ) (t : Settings) (u : InUse) → entered c v t u .settings ≡ t
+unfolding entered
+entered-settings Newer v t u = refl
+entered-settings (Older part top) v t u = each (λ (s : Session). s .settings ≡ t) (leb (v % 0x2000) top) (λ e. refl) (λ e. refl)

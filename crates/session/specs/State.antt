@@ -1,11 +1,14 @@
--- Document 01, "Registers and session": the session, and which are sound. Every session that a definition makes
--- is made by one of the builders here.
+-- Document 01, "Registers and session": the session, and which are sound; document 02, Ask 1: what the older chips add. Every session that
+-- a definition makes is made by one of the builders here.
 use Prim.Native.Nat.{ℕ, _^_, _<_}
-use mathlib.Core.Bool.{Bool, true, false, not}
+use mathlib.Core.Bool.{Bool, true, false, not, _&&_, _||_}
 use mathlib.Core.List.{List, [], _∷_}
 use lib.Dec.{eqb, ltb, leb}
 use Rattle.bits.specs.Bits.{bitAt}
 use Rattle.bits.specs.Tests.{every}
+use Rattle.chip.specs.declared.Chip.{Chip}
+use Rattle.chip.specs.declared.Chip.the-variants.{Newer, Older}
+use Rattle.chip.specs.Chip.{isNewer}
 use Rattle.settings.specs.declared.Settings.{Settings}
 use Rattle.settings.specs.declared.InUse.{InUse}
 use Rattle.settings.specs.Settings.{inUseOf}
@@ -16,10 +19,10 @@ use Rattle.session.specs.declared.Session.{Session}
 abbrev pub noneInUse : InUse
 noneInUse = record { lsb = false; ascending = false; sdo = false; single = false }
 
--- at rest: CSB is high
-abbrev pub resting : Bool → Settings → Session
-resting sclk t = record {
-  csb = true;
+-- the zeros of rest, with the last levels
+abbrev pub idle : Bool → Bool → Settings → Session
+idle csb sclk t = record {
+  csb = csb;
   sclk = sclk;
   phase = Rest;
   bits = 0;
@@ -28,7 +31,16 @@ resting sclk t = record {
   read = false;
   settings = t;
   used = noneInUse;
+  left = 0;
 }
+
+-- at rest: CSB is high
+abbrev pub resting : Bool → Settings → Session
+resting sclk t = idle true sclk t
+
+-- Document 02, Ask 1: an older chip passes bits over, with the select low and the zeros of rest.
+abbrev pub passing : Bool → Settings → Session
+passing sclk t = idle false sclk t
 
 -- in an instruction, with some of its bits taken
 abbrev pub instructing : Bool → ℕ → ℕ → Settings → InUse → Session
@@ -42,15 +54,16 @@ instructing sclk bits value t u = record {
   read = false;
   settings = t;
   used = u;
+  left = 0;
 }
 
 -- an instruction starts, and the settings in use are taken from the settings
 abbrev pub starting : Bool → Settings → Session
 starting sclk t = instructing sclk 0 0 t (inUseOf t)
 
--- in the data at an address, with some bits of a byte taken
-abbrev pub inData : Bool → ℕ → ℕ → ℕ → Bool → Settings → InUse → Session
-inData sclk bits value address read t u = record {
+-- in the data at an address, with some bits of a byte taken and so many bytes left of a run that is counted
+abbrev pub inData : Bool → ℕ → ℕ → ℕ → Bool → ℕ → Settings → InUse → Session
+inData sclk bits value address read left t u = record {
   csb = false;
   sclk = sclk;
   phase = Data;
@@ -60,6 +73,7 @@ inData sclk bits value address read t u = record {
   read = read;
   settings = t;
   used = u;
+  left = left;
 }
 
 -- only the last levels change
@@ -74,28 +88,51 @@ withLevels s x = record {
   read = s .read;
   settings = s .settings;
   used = s .used;
+  left = s .left;
 }
 
--- Soundness, phase by phase. Rest holds exactly if the last CSB is high; at rest all but the settings is zero; an instruction
--- has 0 to 15 bits, with address and direction zero; data has 0 to 7 bits; the value is below 2 to the number of bits.
-abbrev pub soundTests : Phase → Session → List Bool
-soundTests Rest s =
-    s .csb
-    ∷ eqb (s .bits) 0 ∷ eqb (s .value) 0 ∷ eqb (s .address) 0 ∷ not (s .read)
+-- Ask 1: 1 to 3 bytes left of a run that is counted, and 4 where it streams. A newer chip has neither.
+abbrev pub isCounted : ℕ → Bool
+isCounted left = leb 1 left && leb left 3
+
+abbrev pub streams : ℕ
+streams = 4
+
+-- Unless streaming, the select may rise before any data byte of a run: in data, with no bits of a byte taken.
+abbrev pub mayStall : Session → Bool
+mayStall s = isCounted (s .left) && eqb (s .bits) 0
+
+-- what data adds: on an older chip streaming or 1 to 3 bytes left, with an address up to the top; on a newer one nothing
+abbrev pub lengthGood : Chip → ℕ → ℕ → Bool
+lengthGood Newer left address = eqb left 0
+lengthGood (Older part top) left address = (isCounted left || eqb left streams) && leb address top
+
+-- the zeros of rest: bits, value, address, direction, bytes left and settings in use
+abbrev pub zeroTests : Session → List Bool
+zeroTests s =
+    eqb (s .bits) 0 ∷ eqb (s .value) 0 ∷ eqb (s .address) 0 ∷ not (s .read) ∷ eqb (s .left) 0
     ∷ not (s .used .lsb) ∷ not (s .used .ascending) ∷ not (s .used .sdo) ∷ not (s .used .single)
     ∷ []
-soundTests Instruction s =
-    not (s .csb) ∷ leb (s .bits) 15 ∷ ltb (s .value) (2 ^ s .bits) ∷ eqb (s .address) 0 ∷ not (s .read) ∷ []
-soundTests Data s =
-    not (s .csb) ∷ leb (s .bits) 7 ∷ ltb (s .value) (2 ^ s .bits) ∷ leb (s .address) 0x7FFF ∷ []
 
-unfoldable pub soundSession : Session → Bool
-soundSession s = every (soundTests (s .phase) s)
+-- Soundness, phase by phase. Rest holds exactly if the last CSB is high, but for an older chip's run: it passes over
+-- at rest with CSB low, and stalls in data with CSB high; an instruction has 0 to 15 bits, with
+-- address and direction zero; data has 0 to 7 bits; the value is below 2 to the number of bits.
+abbrev pub soundTests : Chip → Phase → Session → List Bool
+soundTests c Rest s = (s .csb || not (isNewer c)) ∷ zeroTests s
+soundTests c Instruction s =
+    not (s .csb) ∷ leb (s .bits) 15 ∷ ltb (s .value) (2 ^ s .bits) ∷ eqb (s .address) 0 ∷ not (s .read) ∷ eqb (s .left) 0 ∷ []
+soundTests c Data s =
+    (not (s .csb) || mayStall s)
+    ∷ leb (s .bits) 7 ∷ ltb (s .value) (2 ^ s .bits) ∷ leb (s .address) 0x7FFF ∷ lengthGood c (s .left) (s .address)
+    ∷ []
 
-abbrev pub isRest : Phase → Bool
-isRest Rest = true
-isRest Instruction = false
-isRest Data = false
+unfoldable pub soundSession : Chip → Session → Bool
+soundSession c s = every (soundTests c (s .phase) s)
+
+abbrev pub isData : Phase → Bool
+isData Rest = false
+isData Instruction = false
+isData Data = true
 
 -- how many bits the piece of a phase has
 abbrev pub widthOf : Phase → ℕ

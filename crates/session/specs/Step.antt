@@ -1,14 +1,17 @@
--- Document 01, "Samples and edges": the core takes one sample and hands back the next state.
-use Prim.Native.Nat.{ℕ, _+_, _%_}
-use mathlib.Core.Bool.{Bool, true, cond, not, _&&_}
-use lib.Dec.{ltb, leb}
+-- Document 01, "Samples and edges": the core takes one sample and hands back the next state. Document 02, Ask 1: where the older chips differ.
+use Prim.Native.Nat.{ℕ, _+_, _-_, _/_, _%_}
+use mathlib.Core.Bool.{Bool, true, false, cond, not, _&&_, _||_}
+use lib.Dec.{eqb, ltb, leb}
 use Rattle.bits.specs.Bits.{bitAt, shiftedIn}
+use Rattle.chip.specs.declared.Chip.{Chip}
+use Rattle.chip.specs.declared.Chip.the-variants.{Newer, Older}
 use Rattle.settings.specs.declared.Settings.{Settings}
-use Rattle.settings.specs.Settings.{nextAddress, settingsAfter}
+use Rattle.settings.specs.declared.InUse.{InUse}
+use Rattle.settings.specs.Settings.{counting, nextAddress, settingsAfter}
 use Rattle.session.specs.declared.Phase.{Phase}
 use Rattle.session.specs.declared.Phase.the-variants.{Rest, Instruction, Data}
 use Rattle.session.specs.declared.Session.{Session}
-use Rattle.session.specs.State.{resting, instructing, starting, inData, withLevels}
+use Rattle.session.specs.State.{resting, instructing, starting, inData, passing, withLevels, isCounted, mayStall}
 
 -- the levels of a sample
 abbrev pub csbOf : ℕ → Bool
@@ -31,6 +34,14 @@ csbFalls s x = s .csb && not (csbOf x)
 abbrev pub csbRises : Session → ℕ → Bool
 csbRises s x = not (s .csb) && csbOf x
 
+-- CSB falls, and no byte of a run is left: one that stalls resumes
+abbrev pub frameStarts : Session → ℕ → Bool
+frameStarts s x = csbFalls s x && eqb (s .left) 0
+
+-- CSB rises, and no run of an older chip can stall here: elsewhere a rise resets the port
+abbrev pub frameEnds : Session → ℕ → Bool
+frameEnds s x = csbRises s x && not (mayStall s)
+
 -- CSB low before and now, SCLK low before and high now
 abbrev pub takesBit : Session → ℕ → Bool
 takesBit s x = not (s .csb) && not (csbOf x) && not (s .sclk) && sclkOf x
@@ -39,43 +50,63 @@ takesBit s x = not (s .csb) && not (csbOf x) && not (s .sclk) && sclkOf x
 abbrev pub valueWith : Session → Bool → ℕ
 valueWith s b = shiftedIn (s .used .lsb) (s .value) (s .bits) b
 
--- One bit of an instruction. Of the whole of it, bit 15 is 1 for read, and bits 14 to 0 are the address.
-unfoldable pub withInstructionBit : Session → Bool → Session
-withInstructionBit s b =
+-- After a whole instruction, by its value. Bit 15 is 1 for read. Newer chips: bits 14 to 0 are the address. Older ones: two length bits,
+-- 00, 01, 10 for one, two, three bytes, and 11 streams; 13 address bits; with a start above the top, bits are passed over at once.
+unfoldable pub entered : Chip → ℕ → Settings → InUse → Session
+entered Newer v t u = inData true 0 0 (v % 0x8000) (leb 0x8000 v) 0 t u
+entered (Older part top) v t u =
+    cond (leb (v % 0x2000) top) (inData true 0 0 (v % 0x2000) (leb 0x8000 v) (v / 0x2000 % 4 + 1) t u) (passing true t)
+
+-- one bit of an instruction
+unfoldable pub withInstructionBit : Chip → Session → Bool → Session
+withInstructionBit c s b =
     cond (ltb (s .bits) 15) (instructing true (s .bits + 1) (valueWith s b) (s .settings) (s .used))
-    (inData true 0 0 (valueWith s b % 0x8000) (leb 0x8000 (valueWith s b)) (s .settings) (s .used))
+    (entered c (valueWith s b) (s .settings) (s .used))
 
 -- the settings after a whole byte v: a read changes none
-abbrev pub settingsOnByte : Session → ℕ → Settings
-settingsOnByte s v = cond (s .read) (s .settings) (settingsAfter (s .settings) (s .address) v)
+abbrev pub settingsOnByte : Chip → Session → ℕ → Settings
+settingsOnByte c s v = cond (s .read) (s .settings) (settingsAfter c (s .settings) (s .address) v)
 
--- After a whole byte, with single instruction in use, a new instruction starts and takes the settings as they now stand.
--- Else data goes on at the next address.
-abbrev pub afterByte : Session → Settings → Session
-afterByte s t =
-    cond (s .used .single) (starting true t)
-    (inData true 0 0 (nextAddress (s .used .ascending) (s .address)) (s .read) t (s .used))
+-- the settings in use that count on the chip
+abbrev pub usedOn : Chip → Session → InUse
+usedOn c s = counting c (s .used)
+
+-- Ask 1: a run of an older chip ends after the count, at address 0 going down, and at the top going up.
+abbrev pub runsOut : Chip → ℕ → ℕ → Bool → Bool
+runsOut Newer left address lsb = false
+runsOut (Older part top) left address lsb = eqb left 1 || eqb address (cond lsb top 0)
+
+abbrev pub runEnds : Chip → Session → Bool
+runEnds c s = runsOut c (s .left) (s .address) (s .used .lsb)
+
+-- After a whole byte, with single instruction in use, a new instruction starts and takes the settings as they now stand. Where a run
+-- ends, bits are passed over. Else data goes on at the next address, and a count falls by one.
+abbrev pub afterByte : Chip → Session → Settings → Session
+afterByte c s t =
+    cond (usedOn c s .single) (starting true t)
+    (cond (runEnds c s) (passing true t)
+    (inData true 0 0 (nextAddress (usedOn c s .ascending) (s .address)) (s .read) (cond (isCounted (s .left)) (s .left - 1) (s .left)) t (s .used)))
 
 -- One bit of data.
-unfoldable pub withDataBit : Session → Bool → Session
-withDataBit s b =
-    cond (ltb (s .bits) 7) (inData true (s .bits + 1) (valueWith s b) (s .address) (s .read) (s .settings) (s .used))
-    (afterByte s (settingsOnByte s (valueWith s b)))
+unfoldable pub withDataBit : Chip → Session → Bool → Session
+withDataBit c s b =
+    cond (ltb (s .bits) 7) (inData true (s .bits + 1) (valueWith s b) (s .address) (s .read) (s .left) (s .settings) (s .used))
+    (afterByte c s (settingsOnByte c s (valueWith s b)))
 
 -- Write data comes from SDIO. Read data comes from SDO with SDO active in use, else from SDIO.
-abbrev pub dataLine : Session → ℕ → Bool
-dataLine s x = cond (s .read && s .used .sdo) (sdoOf x) (sdioOf x)
+abbrev pub dataLine : Chip → Session → ℕ → Bool
+dataLine c s x = cond (s .read && usedOn c s .sdo) (sdoOf x) (sdioOf x)
 
 -- one bit, by the phase
-abbrev pub withBit : Phase → Session → ℕ → Session
-withBit Rest s x = withLevels s x
-withBit Instruction s x = withInstructionBit s (sdioOf x)
-withBit Data s x = withDataBit s (dataLine s x)
+abbrev pub withBit : Chip → Phase → Session → ℕ → Session
+withBit c Rest s x = withLevels s x
+withBit c Instruction s x = withInstructionBit c s (sdioOf x)
+withBit c Data s x = withDataBit c s (dataLine c s x)
 
 -- The next session.
-unfoldable pub stepOf : Session → ℕ → Session
-stepOf s x =
-    cond (csbFalls s x) (starting (sclkOf x) (s .settings))
-    (cond (takesBit s x) (withBit (s .phase) s x)
-    (cond (csbRises s x) (resting (sclkOf x) (s .settings))
+unfoldable pub stepOf : Chip → Session → ℕ → Session
+stepOf c s x =
+    cond (frameStarts s x) (starting (sclkOf x) (s .settings))
+    (cond (takesBit s x) (withBit c (s .phase) s x)
+    (cond (frameEnds s x) (resting (sclkOf x) (s .settings))
     (withLevels s x)))

@@ -1,7 +1,7 @@
 // What a sample completes.
 ghost use mathlib.Core.Path.{_≡_};
-ghost use Rattle.session.specs.State.{Fit};
-ghost use Rattle.session.specs.Event.{isData, eventOf};
+ghost use Rattle.session.specs.State.{isData, Fit};
+ghost use Rattle.session.specs.Event.{eventOf};
 use crate::Event;
 use crate::Phase;
 use crate::Session;
@@ -9,6 +9,7 @@ use crate::step::data_line;
 use crate::step::takes_bit;
 use bits::bit_at;
 use bits::shift_in;
+use chip::Chip;
 
 // Whether the phase is data.
 fn is_data(phase: Phase) -> bool
@@ -23,9 +24,9 @@ fn is_data(phase: Phase) -> bool
 
 impl Session {
     // What the sample completes: the eighth bit of data makes a byte whole, and the rise of CSB breaks off what has bits.
-    pub fn event(self, sample: u8) -> Event
+    pub fn event(self, chip: Chip, sample: u8) -> Event
         requires { ⌜ Fit self ⌝ }
-        ensures { λ r. ⌜ r ≡ eventOf self sample ⌝ }
+        ensures { λ r. ⌜ r ≡ eventOf chip self sample ⌝ }
     {
         let phase = self.phase;
         let data = is_data(phase);
@@ -33,7 +34,8 @@ impl Session {
             if !data | (self.bits < 7) {
                 return Event::Nothing;
             }
-            let bit = data_line(self.read, self.used.sdo, sample);
+            let used = self.used;
+            let bit = data_line(self.read, used.counting(chip).sdo, sample);
             let value = shift_in(self.used.lsb, self.value, self.bits, bit);
             return Event::Whole {
                 read: self.read,

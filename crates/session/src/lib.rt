@@ -7,8 +7,14 @@ mod step;
 
 use settings::InUse;
 use settings::Settings;
+pub use step::is_counted;
+pub use step::may_stall;
+
+// The bytes left where a run of an older chip streams.
+pub const STREAMS: u8 = 4;
 
 pub enum Phase {
+    // With CSB high; or with CSB low, where an older chip passes bits over.
     Rest,
     Instruction,
     Data,
@@ -26,6 +32,8 @@ pub struct Session {
     pub read: bool,
     pub settings: Settings,
     pub used: InUse,
+    // Of an older chip in data: how many bytes of its run are left, 1 to 3, or 4 where it streams; else 0.
+    pub left: u8,
 }
 
 // What a sample completes.

@@ -1,17 +1,17 @@
 // The sessions that a sample leads to, phase by phase.
 ghost use mathlib.Core.Path.{_≡_};
-ghost use Rattle.session.specs.State.{resting, instructing, starting, inData};
+ghost use Rattle.session.specs.State.{idle, resting, passing, instructing, starting, inData};
 use crate::Phase;
 use crate::Session;
 use settings::InUse;
 use settings::Settings;
 
-// At rest: CSB is high.
-pub(crate) fn resting(sclk: bool, settings: Settings) -> Session
-    ensures { λ r. ⌜ r ≡ resting sclk settings ⌝ }
+// The zeros of rest, with the last levels.
+fn idle(csb: bool, sclk: bool, settings: Settings) -> Session
+    ensures { λ r. ⌜ r ≡ idle csb sclk settings ⌝ }
 {
     Session {
-        csb: true,
+        csb: csb,
         sclk: sclk,
         phase: Phase::Rest,
         bits: 0,
@@ -25,7 +25,22 @@ pub(crate) fn resting(sclk: bool, settings: Settings) -> Session
             sdo: false,
             single: false,
         },
+        left: 0,
     }
+}
+
+// At rest: CSB is high.
+pub(crate) fn resting(sclk: bool, settings: Settings) -> Session
+    ensures { λ r. ⌜ r ≡ resting sclk settings ⌝ }
+{
+    idle(true, sclk, settings)
+}
+
+// Passing bits over, with the select low.
+pub(crate) fn passing(sclk: bool, settings: Settings) -> Session
+    ensures { λ r. ⌜ r ≡ passing sclk settings ⌝ }
+{
+    idle(false, sclk, settings)
 }
 
 // In an instruction, with some of its bits taken.
@@ -48,6 +63,7 @@ pub(crate) fn instructing(
         read: false,
         settings: settings,
         used: used,
+        left: 0,
     }
 }
 
@@ -65,10 +81,11 @@ pub(crate) fn in_data(
     value: u16,
     address: u16,
     read: bool,
+    left: u8,
     settings: Settings,
     used: InUse,
 ) -> Session
-    ensures { λ r. ⌜ r ≡ inData sclk bits value address read settings used ⌝ }
+    ensures { λ r. ⌜ r ≡ inData sclk bits value address read left settings used ⌝ }
 {
     Session {
         csb: false,
@@ -80,5 +97,6 @@ pub(crate) fn in_data(
         read: read,
         settings: settings,
         used: used,
+        left: left,
     }
 }

@@ -1,18 +1,23 @@
 // The next session after one sample.
 ghost use mathlib.Core.Path.{_≡_};
-ghost use mathlib.Core.Bool.{cond, not, _&&_};
+ghost use mathlib.Core.Bool.{cond, not, _&&_, _||_};
+ghost use Prim.Native.Nat.{_-_, _<_};
+ghost use lib.Dec.{eqb};
 ghost use Rattle.settings.specs.Settings.{settingsAfter};
 ghost use Rattle.session.specs.declared.Phase.the-variants.{Data};
-ghost use Rattle.session.specs.State.{Fit};
-ghost use Rattle.session.specs.Step.{csbOf, sclkOf, sdioOf, sdoOf, withInstructionBit, withDataBit, stepOf};
+ghost use Rattle.session.specs.State.{isCounted, Fit};
+ghost use Rattle.session.specs.Step.{csbOf, sclkOf, sdioOf, sdoOf, entered, withInstructionBit, runsOut, afterByte, withDataBit, stepOf};
 use crate::Phase;
 use crate::Session;
 use crate::state::in_data;
 use crate::state::instructing;
+use crate::state::passing;
 use crate::state::resting;
 use crate::state::starting;
 use bits::bit_at;
 use bits::shift_in;
+use chip::Chip;
+use settings::InUse;
 use settings::Settings;
 use settings::next_address;
 
@@ -35,20 +40,82 @@ pub(crate) fn data_line(read: bool, sdo: bool, sample: u8) -> bool
 }
 
 // The settings after a whole byte v at an address: a read changes none.
-fn settings_on_byte(settings: Settings, read: bool, address: u16, v: u8) -> Settings
-    ensures { λ r. ⌜ r ≡ cond read settings (settingsAfter settings address v) ⌝ }
+fn settings_on_byte(chip: Chip, settings: Settings, read: bool, address: u16, v: u8) -> Settings
+    ensures { λ r. ⌜ r ≡ cond read settings (settingsAfter chip settings address v) ⌝ }
 {
     if read {
         return settings;
     }
-    settings.after(address, v)
+    settings.after(chip, address, v)
+}
+
+// Whether so many bytes left are those of a run that is counted.
+pub fn is_counted(left: u8) -> bool
+    ensures { λ r. ⌜ r ≡ isCounted left ⌝ }
+{
+    (1 <= left) & (left <= 3)
+}
+
+// Whether the select may rise here and the run resume: before a data byte of a run that is counted.
+pub fn may_stall(left: u8, bits: u8) -> bool
+    ensures { λ r. ⌜ r ≡ (isCounted left && eqb bits 0) ⌝ }
+{
+    is_counted(left) & (bits == 0)
+}
+
+// The session after a whole instruction.
+fn entered(chip: Chip, value: u16, settings: Settings, used: InUse) -> Session
+    ensures { λ r. ⌜ r ≡ entered chip value settings used ⌝ }
+{
+    match chip {
+        Chip::Newer => in_data(
+            true,
+            0,
+            0,
+            value % 0x8000,
+            0x8000 <= value,
+            0,
+            settings,
+            used,
+        ),
+        Chip::Older { part: _, top } => {
+            let start = value % 0x2000;
+            if (start as u64) <= top {
+                let left = (value / 0x2000 % 4 + 1) as u8;
+                return in_data(true, 0, 0, start, 0x8000 <= value, left, settings, used);
+            }
+            passing(true, settings)
+        }
+    }
+}
+
+// Whether a run ends with the byte at an address, of so many that are left.
+fn runs_out(chip: Chip, left: u8, address: u16, lsb: bool) -> bool
+    ensures { λ r. ⌜ r ≡ runsOut chip left address lsb ⌝ }
+{
+    match chip {
+        Chip::Newer => false,
+        Chip::Older { part: _, top } => {
+            if lsb {
+                return (left == 1) | ((address as u64) == top);
+            }
+            (left == 1) | (address == 0)
+        }
+    }
+}
+
+// How many bytes are left after one.
+fn left_after(left: u8) -> u8
+    ensures { λ r. ⌜ r ≡ cond (isCounted left) (left - 1) left ⌝ }
+{
+    if is_counted(left) { left - 1 } else { left }
 }
 
 impl Session {
     // With one more bit of an instruction.
-    fn with_instruction_bit(self, bit: bool) -> Session
+    fn with_instruction_bit(self, chip: Chip, bit: bool) -> Session
         requires { ⌜ Fit self ⌝ }
-        ensures { λ r. ⌜ r ≡ withInstructionBit self bit ⌝ }
+        ensures { λ r. ⌜ r ≡ withInstructionBit chip self bit ⌝ }
     {
         let value = shift_in(self.used.lsb, self.value, self.bits, bit);
         let settings = self.settings;
@@ -56,16 +123,40 @@ impl Session {
         if self.bits < 15 {
             return instructing(true, self.bits + 1, value, settings, used);
         }
-        in_data(true, 0, 0, value % 0x8000, 0x8000 <= value, settings, used)
+        entered(chip, value, settings, used)
     }
 
-    // With one more bit of data. After the last of a byte comes a new instruction under the settings as they now stand, or data
-    // at the next address.
-    fn with_data_bit(self, bit: bool) -> Session
-        requires { ⌜ (Fit self) × (self .phase ≡ Data) ⌝ }
-        ensures { λ r. ⌜ r ≡ withDataBit self bit ⌝ }
+    // After a whole byte, under the settings as they now stand: a new instruction, bits to pass over, or data at the next address.
+    fn after_byte(self, chip: Chip, settings: Settings) -> Session
+        requires { ⌜ self .address < 0x8000 ⌝ }
+        ensures { λ r. ⌜ r ≡ afterByte chip self settings ⌝ }
     {
-        let address = self.address;
+        let used = self.used;
+        let counting = used.counting(chip);
+        if counting.single {
+            return starting(true, settings);
+        }
+        if runs_out(chip, self.left, self.address, self.used.lsb) {
+            return passing(true, settings);
+        }
+        let next = next_address(counting.ascending, self.address);
+        in_data(
+            true,
+            0,
+            0,
+            next,
+            self.read,
+            left_after(self.left),
+            settings,
+            used,
+        )
+    }
+
+    // With one more bit of data.
+    fn with_data_bit(self, chip: Chip, bit: bool) -> Session
+        requires { ⌜ (Fit self) × (self .phase ≡ Data) ⌝ }
+        ensures { λ r. ⌜ r ≡ withDataBit chip self bit ⌝ }
+    {
         let settings = self.settings;
         let used = self.used;
         let value = shift_in(used.lsb, self.value, self.bits, bit);
@@ -74,31 +165,28 @@ impl Session {
                 true,
                 self.bits + 1,
                 value,
-                address,
+                self.address,
                 self.read,
+                self.left,
                 settings,
                 used,
             );
         }
-        let settings = settings_on_byte(settings, self.read, address, value as u8);
-        if used.single {
-            return starting(true, settings);
-        }
-        let next = next_address(used.ascending, address);
-        in_data(true, 0, 0, next, self.read, settings, used)
+        let settings = settings_on_byte(chip, settings, self.read, self.address, value as u8);
+        self.after_byte(chip, settings)
     }
 
-    // The next session. A sound one takes no bit at rest, where CSB is high.
-    pub fn step(mut self, sample: u8) -> Session
+    // The next session. A bit at rest is passed over.
+    pub fn step(mut self, chip: Chip, sample: u8) -> Session
         requires { ⌜ Fit self ⌝ }
-        ensures { λ r. ⌜ r ≡ stepOf self sample ⌝ }
+        ensures { λ r. ⌜ r ≡ stepOf chip self sample ⌝ }
     {
         let csb_before = self.csb;
         let takes_bit = takes_bit(self.csb, self.sclk, sample);
         self.csb = bit_at(sample, 0);
         self.sclk = bit_at(sample, 1);
         let settings = self.settings;
-        if csb_before & !self.csb {
+        if csb_before & !self.csb & (self.left == 0) {
             return starting(self.sclk, settings);
         }
         if takes_bit {
@@ -108,14 +196,16 @@ impl Session {
                     return self;
                 }
                 Phase::Instruction => {
-                    return self.with_instruction_bit(bit_at(sample, 2));
+                    return self.with_instruction_bit(chip, bit_at(sample, 2));
                 }
                 Phase::Data => {
-                    return self.with_data_bit(data_line(self.read, self.used.sdo, sample));
+                    let used = self.used;
+                    let line = data_line(self.read, used.counting(chip).sdo, sample);
+                    return self.with_data_bit(chip, line);
                 }
             }
         }
-        if !csb_before & self.csb {
+        if !csb_before & self.csb & !may_stall(self.left, self.bits) {
             return resting(self.sclk, settings);
         }
         self

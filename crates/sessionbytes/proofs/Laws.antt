@@ -73,6 +73,7 @@ session-back s = λ i. record {
     sdo = flag-back (s .used .sdo) i;
     single = flag-back (s .used .single) i;
   };
+  left = s .left;
 }
 
 -- from a byte to its field and back
@@ -119,5 +120,5 @@ bytes-back b h small =
     ∷ bit-back (at 10) (g .1 .0) i ∷ bit-back (at 11) (g .1 .1 .0) i ∷ bit-back (at 12) (g .1 .1 .1 .0) i
     ∷ bit-back (at 13) (g .1 .1 .1 .1 .0) i ∷ bit-back (at 14) (g .1 .1 .1 .1 .1 .0) i
     ∷ bit-back (at 15) (u .0) i ∷ bit-back (at 16) (u .1 .0) i ∷ bit-back (at 17) (u .1 .1 .0) i ∷ bit-back (at 18) (u .1 .1 .1 .0) i
-    ∷ [])
+    ∷ at 19 ∷ [])
     ∙ sym (all-listed sessionSize b 0 (eqb-true (length b) sessionSize (t .0)))

@@ -14,11 +14,11 @@ use Rattle.session.specs.declared.Session.{Session}
 
 -- how many bytes a session has
 abbrev pub sessionSize : ℕ
-sessionSize = 19
+sessionSize = 20
 
 -- the version of the layout: another layout has another one
 abbrev pub layoutVersion : ℕ
-layoutVersion = 2
+layoutVersion = 3
 
 -- 0 rest, 1 instruction, 2 data
 abbrev pub phaseByte : Phase → ℕ
@@ -39,12 +39,12 @@ abbrev pub usedBytes : InUse → List ℕ
 usedBytes u = bitOf (u .lsb) ∷ bitOf (u .ascending) ∷ bitOf (u .sdo) ∷ bitOf (u .single) ∷ []
 
 -- The bytes of a session: the version, the last levels of CSB and SCLK, the phase, the bits taken and their value, the address,
--- the direction, the settings and those in use. What has 16 bits is big-endian.
+-- the direction, the settings and those in use, and the bytes left of a run. What has 16 bits is big-endian.
 unfoldable pub sessionBytes : Session → List ℕ
 sessionBytes s =
     layoutVersion ∷ bitOf (s .csb) ∷ bitOf (s .sclk) ∷ phaseByte (s .phase)
     ∷ s .bits ∷ s .value / 256 ∷ s .value % 256 ∷ s .address / 256 ∷ s .address % 256 ∷ bitOf (s .read)
-    ∷ settingsBytes (s .settings) ++ usedBytes (s .used)
+    ∷ settingsBytes (s .settings) ++ usedBytes (s .used) ++ (s .left ∷ [])
 
 -- the byte at a place
 abbrev byteAt : List ℕ → ℕ → ℕ
@@ -89,4 +89,5 @@ sessionOf b = record {
     readback = flagAt b 14;
   };
   used = record { lsb = flagAt b 15; ascending = flagAt b 16; sdo = flagAt b 17; single = flagAt b 18 };
+  left = byteAt b 19;
 }

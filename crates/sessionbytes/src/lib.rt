@@ -8,10 +8,10 @@ use settings::InUse;
 use settings::Settings;
 
 // How many bytes a session has.
-pub const SIZE: usize = 19;
+pub const SIZE: usize = 20;
 
 // The version of the layout: the first byte.
-const VERSION: u8 = 2;
+const VERSION: u8 = 3;
 
 // The byte of a phase.
 fn phase_byte(phase: Phase) -> u8
@@ -69,6 +69,7 @@ pub fn bytes_of(session: Session) -> [u8; SIZE]
         session.used.ascending as u8,
         session.used.sdo as u8,
         session.used.single as u8,
+        session.left,
     ]
 }
 
@@ -121,5 +122,6 @@ pub fn session_of(bytes: &[u8]) -> Session
             sdo: bytes[17] == 1,
             single: bytes[18] == 1,
         },
+        left: bytes[19],
     }
 }

@@ -1,15 +1,25 @@
 -- The settings: which way the address goes, what a write to a control register makes of them, and what those registers read as.
 use Prim.Native.Nat.{ℕ, _+_, _*_, _%_}
-use mathlib.Core.Bool.{Bool, false, cond}
+use mathlib.Core.Bool.{Bool, false, cond, _&&_}
 use lib.Dec.{eqb}
 use Rattle.bits.specs.Bits.{bitAt, bitOf}
 use Rattle.card.specs.Card.{isMirror}
+use Rattle.chip.specs.declared.Part.{Part}
+use Rattle.chip.specs.declared.Chip.{Chip}
+use Rattle.chip.specs.declared.Chip.the-variants.{Newer, Older}
+use Rattle.chip.specs.Chip.{partReadsBuffer, transferPlace}
 use Rattle.settings.specs.declared.Settings.{Settings}
 use Rattle.settings.specs.declared.InUse.{InUse}
 
 -- Document 01, "Registers and session": the settings in use are the first four settings.
 abbrev pub inUseOf : Settings → InUse
 inUseOf t = record { lsb = t .lsb; ascending = t .ascending; sdo = t .sdo; single = t .single }
+
+-- Document 02, Ask 1: of the settings in use, those that count. On an older chip the bit order alone does: highest bit first goes down
+-- in address, lowest first up; reads come from SDIO, and there is no single instruction.
+abbrev pub counting : Chip → InUse → InUse
+counting Newer u = u
+counting (Older part top) u = record { lsb = u .lsb; ascending = u .lsb; sdo = false; single = false }
 
 -- Document 01, "Samples and edges": the address after a whole byte, up by one or down by one, modulo 0x8000.
 abbrev pub nextAddress : Bool → ℕ → ℕ
@@ -40,16 +50,63 @@ configuredB t v = record {
   readback = bitAt v 5;
 }
 
--- the settings after v is written to an address
-unfoldable pub settingsAfter : Settings → ℕ → ℕ → Settings
-settingsAfter t address v =
+-- the settings of a newer chip after v is written to an address
+unfoldable pub newerAfter : Settings → ℕ → ℕ → Settings
+newerAfter t address v =
     cond (eqb address 0x0000) (cond (isMirror v) (configured t v) t)
     (cond (eqb address 0x0001) (configuredB t v)
     t)
 
+-- Document 02, Ask 1: 0x0000 of an older chip. Bit 6 sets the bit order; the other bits are ignored.
+abbrev pub ordered : Settings → ℕ → Settings
+ordered t v = record {
+  lsb = bitAt v 6;
+  ascending = t .ascending;
+  sdo = t .sdo;
+  single = t .single;
+  readback = t .readback;
+}
+
+-- 0x0004 of the AD9557: bit 0 set reads the buffer stage; the other bits are ignored.
+abbrev pub staged : Settings → ℕ → Settings
+staged t v = record {
+  lsb = t .lsb;
+  ascending = t .ascending;
+  sdo = t .sdo;
+  single = t .single;
+  readback = bitAt v 0;
+}
+
+-- the settings of an older part after v is written to an address
+unfoldable pub olderAfter : Part → Settings → ℕ → ℕ → Settings
+olderAfter part t address v =
+    cond (eqb address 0x0000) (ordered t v)
+    (cond (eqb address 0x0004 && partReadsBuffer part) (staged t v)
+    t)
+
+-- the settings after v is written to an address
+abbrev pub settingsAfter : Chip → Settings → ℕ → ℕ → Settings
+settingsAfter Newer t address v = newerAfter t address v
+settingsAfter (Older part top) t address v = olderAfter part t address v
+
 -- What a control register reads as: 0x0000 the settings on both bits of each pair; 0x0001 its two bits; 0x000F zero.
-unfoldable pub controlReading : Settings → ℕ → ℕ
-controlReading t address =
+unfoldable pub newerReading : Settings → ℕ → ℕ
+newerReading t address =
     cond (eqb address 0x0000) (bitOf (t .lsb) * 0x42 + bitOf (t .ascending) * 0x24 + bitOf (t .sdo) * 0x18)
     (cond (eqb address 0x0001) (bitOf (t .single) * 0x80 + bitOf (t .readback) * 0x20)
     0)
+
+-- Document 02, Ask 1: 0x0000 and 0x0004 of an older part read as their one stored bit; 0x0005 as zero.
+unfoldable pub olderReading : Settings → ℕ → ℕ
+olderReading t address =
+    cond (eqb address 0x0000) (bitOf (t .lsb) * 0x40)
+    (cond (eqb address 0x0004) (bitOf (t .readback) * 0x01)
+    0)
+
+abbrev pub controlReading : Chip → Settings → ℕ → ℕ
+controlReading Newer t address = newerReading t address
+controlReading (Older part top) t address = olderReading t address
+
+-- a byte written to a control register asks for a transfer: a 1 in bit 0 of the transfer's register
+abbrev pub transfersAt : Chip → ℕ → ℕ → Bool
+transfersAt c address v = eqb address (transferPlace c) && bitAt v 0

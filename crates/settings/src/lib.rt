@@ -1,12 +1,14 @@
-// The settings of the serial control interface: the five of a session, the four that an instruction has in use, and which way they
-// send the address. What a write to a control register makes of them, and what it reads as, is in control.rt.
+// The settings of the serial control interface: the five of a session, the four that an instruction has in use, those that count on a
+// chip, and which way they send the address. What a write to a control register makes of them, and what it reads as, is in control.rt.
 ghost use mathlib.Core.Path.{_≡_};
 ghost use Prim.Native.Nat.{_<_};
-ghost use Rattle.settings.specs.Settings.{inUseOf, nextAddress};
+ghost use Rattle.settings.specs.Settings.{inUseOf, counting, nextAddress};
 
 mod control;
 
+use chip::Chip;
 pub use control::asks_reset;
+pub use control::transfers_at;
 
 pub struct Settings {
     pub lsb: bool,
@@ -34,6 +36,25 @@ impl Settings {
             ascending: self.ascending,
             sdo: self.sdo,
             single: self.single,
+        }
+    }
+}
+
+impl InUse {
+    // Those that count on a chip.
+    pub fn counting(self, chip: Chip) -> InUse
+        ensures { λ r. ⌜ r ≡ counting chip self ⌝ }
+    {
+        match chip {
+            Chip::Newer => self,
+            Chip::Older { part: _, top: _ } => {
+                InUse {
+                    lsb: self.lsb,
+                    ascending: self.lsb,
+                    sdo: false,
+                    single: false,
+                }
+            }
         }
     }
 }

@@ -8,18 +8,19 @@ use borrow.Author.Tests.{eq-eqb, ne-eqb}
 use Rattle.bits.specs.Buffer.{Put}
 use Rattle.bits.proofs.Cases.{yes, no}
 use Rattle.bits.proofs.Putting.{put-filled}
+use Rattle.chip.specs.declared.Chip.the-variants.{Newer}
 use Rattle.order.specs.Samples.{allSamples}
 use Rattle.sender.specs.Calls.{sending}
 use Rattle.setup.specs.Calls.{ordersOf, setupNumber, setupOf}
 use Rattle.setup.proofs.Numbers.{passed}
 
 module _ (settings : ℕ) (l old : List ℕ) where
-  pub done : (k n : ℕ) (new : List ℕ) → k ≡ setupNumber settings l (length old) → k ≡ 0 → Put old 0 (allSamples (ordersOf settings l)) n new
+  pub done : (k n : ℕ) (new : List ℕ) → k ≡ setupNumber settings l (length old) → k ≡ 0 → Put old 0 (allSamples Newer (ordersOf settings l)) n new
       → sending 0 n new ≡ setupOf settings l old
   unfolding setupOf
   done k n new e z p =
       let number : setupNumber settings l (length old) ≡ 0 = sym e ∙ z in
-      let count : n ≡ length (allSamples (ordersOf settings l)) = omega (arith, p .next-place) in
+      let count : n ≡ length (allSamples Newer (ordersOf settings l)) = omega (arith, p .next-place) in
       let buffer = put-filled (passed settings l (length old) number .enough) p in
       yes _ (eq-eqb _ _ number) (cc)
 

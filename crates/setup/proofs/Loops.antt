@@ -11,6 +11,7 @@ use lib.ListN.{length, drop, length-drop, length-append}
 use Rattle.bits.specs.Buffer.{Put}
 use Rattle.bits.specs.Bytes.{wordAt}
 use Rattle.bits.proofs.Putting.{Putting, begun, Splits, next-fits, further, ended}
+use Rattle.chip.specs.declared.Chip.the-variants.{Newer}
 use Rattle.order.specs.Order.{Order}
 use Rattle.order.specs.Samples.{samplesOf, allSamples}
 use Rattle.order.specs.Number.{sendNumber}
@@ -27,7 +28,7 @@ use Rattle.setup.proofs.Numbers.{no-first, none-bad, passed}
 pub record Looking (settings : ℕ) (l : List ℕ) (n left bad total : ℕ) : Type 0 where
   pub form : Testing l n left
   pub first : cond (eqb bad 0) (firstBad (ordersFrom settings l n left)) bad ≡ firstBad (ordersOf settings l)
-  pub sum : bad ≡ 0 → total + length (allSamples (ordersFrom settings l n left)) ≡ length (allSamples (ordersOf settings l))
+  pub sum : bad ≡ 0 → total + length (allSamples Newer (ordersFrom settings l n left)) ≡ length (allSamples Newer (ordersOf settings l))
   pub most : total + 48003 * left ≤ 3072192
 
 pub look-from : (settings : ℕ) (l : List ℕ) → Looking settings l 0 mostOrders 0 0
@@ -49,16 +50,16 @@ module _ {settings : ℕ} {l : List ℕ} {n left bad total : ℕ} (s : Looking s
     own-fine found e k = no-first bad (ownNumber (orderAt settings l n)) (sym e ∙ k) .1
 
     pub taken-few : (found taken : ℕ) → found ≡ cond (eqb bad 0) (ownNumber (orderAt settings l n)) bad
-        → taken ≡ cond (eqb found 0) (length (samplesOf (orderAt settings l n))) 0
+        → taken ≡ cond (eqb found 0) (length (samplesOf Newer (orderAt settings l n))) 0
         → taken ≤ 48003
     taken-few found taken e t = go (eqb found 0) refl t
       where
-        go : (b : Bool) → eqb found 0 ≡ b → taken ≡ cond b (length (samplesOf (orderAt settings l n))) 0 → taken ≤ 48003
-        go true q r = omega (arith, r, most-samples (orderAt settings l n) (admitted _ _ (own-fine found e (eqb-true found 0 q)) .count))
+        go : (b : Bool) → eqb found 0 ≡ b → taken ≡ cond b (length (samplesOf Newer (orderAt settings l n))) 0 → taken ≤ 48003
+        go true q r = omega (arith, r, most-samples Newer (orderAt settings l n) (admitted Newer _ _ (own-fine found e (eqb-true found 0 q)) .count))
         go false q r = omega (arith, r)
 
     pub look-on : (found taken : ℕ) → found ≡ cond (eqb bad 0) (ownNumber (orderAt settings l n)) bad
-        → taken ≡ cond (eqb found 0) (length (samplesOf (orderAt settings l n))) 0
+        → taken ≡ cond (eqb found 0) (length (samplesOf Newer (orderAt settings l n))) 0
         → Looking settings l (n + 2 + wordAt l n) (left - 1) found (total + taken)
     unfolding allSamples
     look-on found taken e t =
@@ -71,9 +72,9 @@ module _ {settings : ℕ} {l : List ℕ} {n left bad total : ℕ} (s : Looking s
           first = rw e (still-first (eqb bad 0) more refl q);
           sum = λ k.
               let was = no-first bad (ownNumber (orderAt settings l n)) (sym e ∙ k) in
-              let t′ : taken ≡ length (samplesOf (orderAt settings l n)) = rw k at t in
-              let both : length (allSamples (ordersFrom settings l n left)) ≡ length (samplesOf (orderAt settings l n)) + length (allSamples more) =
-              ap (λ (os : List Order). length (allSamples os)) split ∙ length-append (samplesOf (orderAt settings l n)) (allSamples more) in
+              let t′ : taken ≡ length (samplesOf Newer (orderAt settings l n)) = rw k at t in
+              let both : length (allSamples Newer (ordersFrom settings l n left)) ≡ length (samplesOf Newer (orderAt settings l n)) + length (allSamples Newer more) =
+              ap (λ (os : List Order). length (allSamples Newer os)) split ∙ length-append (samplesOf Newer (orderAt settings l n)) (allSamples Newer more) in
               omega (arith, t′, both, s .sum (was .0));
           most = omega (arith, taken-few found taken e t, s .most);
         }
@@ -86,7 +87,7 @@ module _ {settings : ℕ} {l : List ℕ} {n left bad total : ℕ} (s : Looking s
       record {
         first = rw (← tested-all l n left (s .form) h) (same (eqb bad 0) refl q);
         all = λ k.
-            let e : length (allSamples (ordersFrom settings l n left)) ≡ 0 = ap (λ (os : List Order). length (allSamples os)) none in
+            let e : length (allSamples Newer (ordersFrom settings l n left)) ≡ 0 = ap (λ (os : List Order). length (allSamples Newer os)) none in
             omega (arith, e, s .sum k);
       }
     where
@@ -104,7 +105,7 @@ pub record Sends (settings : ℕ) (l old : List ℕ) (n k : ℕ) (new : List ℕ
   pub orders : List Order
   pub to-go : ToGo settings l n orders
   pub fine : firstBad orders ≡ 0
-  pub put : Putting old 0 (allSamples (ordersOf settings l)) (allSamples orders) k new
+  pub put : Putting old 0 (allSamples Newer (ordersOf settings l)) (allSamples Newer orders) k new
 
 pub send-from : (settings : ℕ) (l old : List ℕ) → setupNumber settings l (length old) ≡ 0 → Sends settings l old 0 0 old
 send-from settings l old z =
@@ -113,29 +114,29 @@ send-from settings l old z =
       orders = ordersOf settings l;
       to-go = all-to-go settings l (p .good);
       fine = p .fine;
-      put = begun old 0 (allSamples (ordersOf settings l)) (omega (arith, p .enough));
+      put = begun old 0 (allSamples Newer (ordersOf settings l)) (omega (arith, p .enough));
     }
 
 module _ {settings : ℕ} {l old : List ℕ} {n k : ℕ} {new : List ℕ} (s : Sends settings l old n k new) (h : n < length l) where
   next : Next settings l n (s .orders)
   next = next-order (s .to-go) h
 
-  splits : Splits (allSamples (s .orders)) (samplesOf (orderAt settings l n)) (allSamples (next .others))
+  splits : Splits (allSamples Newer (s .orders)) (samplesOf Newer (orderAt settings l n)) (allSamples Newer (next .others))
   unfolding allSamples
-  splits = record { split = ap allSamples (next .split) }
+  splits = record { split = ap (allSamples Newer) (next .split) }
 
   both-fine : (ownNumber (orderAt settings l n) ≡ 0) × (firstBad (next .others) ≡ 0)
   both-fine = none-bad (orderAt settings l n) (next .others) (sym (ap firstBad (next .split)) ∙ s .fine)
 
-  pub next-room : k + length (samplesOf (orderAt settings l n)) ≤ length new
+  pub next-room : k + length (samplesOf Newer (orderAt settings l n)) ≤ length new
   next-room = next-fits (s .put) splits
 
-  pub next-number : sendNumber (orderAt settings l n) (length (drop k new)) ≡ 0
-  next-number = room-enough (orderAt settings l n) _ _ (both-fine .0) (omega (arith, next-room, length-drop k new))
+  pub next-number : sendNumber Newer (orderAt settings l n) (length (drop k new)) ≡ 0
+  next-number = room-enough Newer (orderAt settings l n) _ (both-fine .0) _ (omega (arith, next-room, length-drop k new))
 
-  pub sent-on : {k′ : ℕ} {new′ : List ℕ} → Put new k (samplesOf (orderAt settings l n)) k′ new′ → Sends settings l old (n + 2 + wordAt l n) k′ new′
+  pub sent-on : {k′ : ℕ} {new′ : List ℕ} → Put new k (samplesOf Newer (orderAt settings l n)) k′ new′ → Sends settings l old (n + 2 + wordAt l n) k′ new′
   sent-on p = record { orders = next .others; to-go = next .onward; fine = both-fine .1; put = further (s .put) splits p }
 
-pub sent-all : {settings : ℕ} {l old : List ℕ} {n k : ℕ} {new : List ℕ} → Sends settings l old n k new → length l ≤ n → Put old 0 (allSamples (ordersOf settings l)) k new
+pub sent-all : {settings : ℕ} {l old : List ℕ} {n k : ℕ} {new : List ℕ} → Sends settings l old n k new → length l ≤ n → Put old 0 (allSamples Newer (ordersOf settings l)) k new
 unfolding allSamples
-sent-all s h = ended (s .put) (ap allSamples (none-to-go (s .to-go) h))
+sent-all s h = ended (s .put) (ap (allSamples Newer) (none-to-go (s .to-go) h))

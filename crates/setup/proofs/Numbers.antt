@@ -9,6 +9,7 @@ use lib.Dec.{eqb, leb}
 use borrow.Author.Tests.{leb-true, le-leb, lt-leb, ne-eqb, eqb-true}
 use Rattle.bits.specs.Tests.{unless}
 use Rattle.bits.proofs.Cases.{no}
+use Rattle.chip.specs.declared.Chip.the-variants.{Newer}
 use Rattle.order.specs.Order.{Order}
 use Rattle.order.specs.Samples.{allSamples}
 use Rattle.setup.specs.Form.{listGood}
@@ -41,7 +42,7 @@ module _ (settings : ℕ) (l : List ℕ) (room number total : ℕ) (f : Found se
       go : (b : Bool) → number ≡ unless b 14 (firstBad (ordersOf settings l))
           → number
           ≡ unless b 14
-          (cond (eqb (firstBad (ordersOf settings l)) 0) (roomNumber (length (allSamples (ordersOf settings l))) room) (firstBad (ordersOf settings l)))
+          (cond (eqb (firstBad (ordersOf settings l)) 0) (roomNumber (length (allSamples Newer (ordersOf settings l))) room) (firstBad (ordersOf settings l)))
       go true e = no _ (ne-eqb _ _ (λ q. z (e ∙ q))) e
       go false e = e
 
@@ -65,13 +66,13 @@ module _ (settings : ℕ) (l : List ℕ) (room number total : ℕ) (f : Found se
 pub record Passed (settings : ℕ) (l : List ℕ) (room : ℕ) : Type 0 where
   pub good : listGood mostOrders l ≡ true
   pub fine : firstBad (ordersOf settings l) ≡ 0
-  pub few : length (allSamples (ordersOf settings l)) ≤ mostSamples
-  pub enough : length (allSamples (ordersOf settings l)) ≤ room
+  pub few : length (allSamples Newer (ordersOf settings l)) ≤ mostSamples
+  pub enough : length (allSamples Newer (ordersOf settings l)) ≤ room
 
 pub passed : (settings : ℕ) (l : List ℕ) (room : ℕ) → setupNumber settings l room ≡ 0 → Passed settings l room
 unfolding setupNumber
 passed settings l room h =
-    let total = length (allSamples (ordersOf settings l)) in
+    let total = length (allSamples Newer (ordersOf settings l)) in
     let a = held (listGood mostOrders l) 13 _ h in
     let b = no-first (firstBad (ordersOf settings l)) _ (a .1) in
     let c = held (leb total mostSamples) 14 _ (b .1) in

@@ -7,6 +7,7 @@ use lib.ListN.{length}
 use lib.Dec.{eqb, leb}
 use Rattle.bits.specs.Tests.{unless}
 use Rattle.bits.specs.Buffer.{filled}
+use Rattle.chip.specs.declared.Chip.the-variants.{Newer}
 use Rattle.order.specs.Order.{Order}
 use Rattle.order.specs.Samples.{samplesOf, allSamples}
 use Rattle.order.specs.Number.{sendNumber}
@@ -27,7 +28,7 @@ ordersOf settings list = map (withSettings settings) (listedOf mostOrders list)
 
 -- the number of an order by itself, 7 to 10: it has just the room that it needs, so this is never 11
 abbrev pub ownNumber : Order → ℕ
-ownNumber o = sendNumber o (length (samplesOf o))
+ownNumber o = sendNumber Newer o (length (samplesOf Newer o))
 
 -- The first bad order gives the number; 0 where each has passed.
 unfoldable pub firstBad : List Order → ℕ
@@ -43,12 +44,12 @@ unfoldable pub setupNumber : ℕ → List ℕ → ℕ → ℕ
 setupNumber settings list room =
     unless (listGood mostOrders list) 14
     (cond (eqb (firstBad (ordersOf settings list)) 0)
-    (roomNumber (length (allSamples (ordersOf settings list))) room)
+    (roomNumber (length (allSamples Newer (ordersOf settings list))) room)
     (firstBad (ordersOf settings list)))
 
 -- A call, on a list and a lent buffer: the recordings of the orders, joined.
 unfoldable pub setupOf : ℕ → List ℕ → List ℕ → Sending
 setupOf settings list buffer =
     cond (eqb (setupNumber settings list (length buffer)) 0)
-    (sending 0 (length (allSamples (ordersOf settings list))) (filled (allSamples (ordersOf settings list)) buffer))
+    (sending 0 (length (allSamples Newer (ordersOf settings list))) (filled (allSamples Newer (ordersOf settings list)) buffer))
     (sending (setupNumber settings list (length buffer)) 0 buffer)

@@ -6,6 +6,7 @@ ghost use lib.Dec.{eqb};
 ghost use lib.ListN.{length, drop};
 ghost use Rattle.bits.specs.Buffer.{Put};
 ghost use Rattle.bits.specs.Tests.{every};
+ghost use Rattle.chip.specs.declared.Chip.the-variants.{Newer};
 ghost use Rattle.order.specs.Samples.{samplesOf, allSamples};
 ghost use Rattle.order.specs.Number.{sendNumber};
 ghost use Rattle.sender.specs.Calls.{sending};
@@ -16,6 +17,7 @@ ghost use Rattle.setup.specs.Look.{Found};
 mod list;
 
 use bits::bit_at;
+use chip::Chip;
 pub use list::DATA_AT;
 pub use list::LEAST_LENGTH;
 use list::MOST_ORDERS;
@@ -39,7 +41,7 @@ fn number_at(settings: u64, list: &[u8], at: usize) -> u8
     let from = at + DATA_AT;
     let end = after(list, at);
     let order = order_at(settings, list, at);
-    number_of(order, &list[from..end], MOST_SAMPLES)
+    number_of(Chip::Newer, order, &list[from..end], MOST_SAMPLES)
 }
 
 // The number of the first bad order up to a place: the one found before it, or that of the order there.
@@ -57,7 +59,7 @@ fn bad_at(bad: u8, settings: u64, list: &[u8], at: usize) -> u8
 fn samples_at(bad: u8, settings: u64, list: &[u8], at: usize) -> usize
     requires { ⌜ every (wholeTests (drop at (now list))) ≡ true ⌝ }
     requires { ⌜ (bad ≡ 0 → ownNumber (withSettings settings (firstListed (drop at (now list)))) ≡ 0) ⌝ }
-    ensures { λ r. ⌜ r ≡ cond (eqb bad 0) (length (samplesOf (withSettings settings (firstListed (drop at (now (list .entry))))))) 0 ⌝ }
+    ensures { λ r. ⌜ r ≡ cond (eqb bad 0) (length (samplesOf Newer (withSettings settings (firstListed (drop at (now (list .entry))))))) 0 ⌝ }
 {
     if bad != 0 {
         return 0;
@@ -125,8 +127,8 @@ fn setup_number(settings: u64, list: &[u8], room: usize) -> u8
 // Puts the samples of the order at a place of the list into the part of the buffer from n on, and gives the place after them.
 fn send_at(settings: u64, list: &[u8], at: usize, out: &mut [u8], n: usize) -> usize
     requires { ⌜ (every (wholeTests (drop at (now list))) ≡ true) × (n ≤ length (now out)) ⌝ }
-    requires { ⌜ sendNumber (withSettings settings (firstListed (drop at (now list)))) (length (drop n (now out))) ≡ 0 ⌝ }
-    ensures { λ r. ⌜ Put (now (out .entry)) n (samplesOf (withSettings settings (firstListed (drop at (now (list .entry)))))) r (now (out .exit)) ⌝ }
+    requires { ⌜ sendNumber Newer (withSettings settings (firstListed (drop at (now list)))) (length (drop n (now out))) ≡ 0 ⌝ }
+    ensures { λ r. ⌜ Put (now (out .entry)) n (samplesOf Newer (withSettings settings (firstListed (drop at (now (list .entry)))))) r (now (out .exit)) ⌝ }
 {
     let from = at + DATA_AT;
     let end = after(list, at);
@@ -137,7 +139,7 @@ fn send_at(settings: u64, list: &[u8], at: usize, out: &mut [u8], n: usize) -> u
 // Sends all orders of a list that is not refused, one after the other.
 fn send_all(settings: u64, list: &[u8], out: &mut [u8]) -> usize
     requires { ⌜ setupNumber settings (now list) (length (now out)) ≡ 0 ⌝ }
-    ensures { λ r. ⌜ Put (now (out .entry)) 0 (allSamples (ordersOf settings (now (list .entry)))) r (now (out .exit)) ⌝ }
+    ensures { λ r. ⌜ Put (now (out .entry)) 0 (allSamples Newer (ordersOf settings (now (list .entry)))) r (now (out .exit)) ⌝ }
 {
     let mut at: usize = 0;
     let mut n: usize = 0;

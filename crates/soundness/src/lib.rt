@@ -2,10 +2,15 @@
 ghost use mathlib.Core.Path.{_≡_};
 ghost use Prim.Native.Nat.{_^_};
 ghost use lib.Dec.{ltb};
-ghost use Rattle.session.specs.State.{soundSession};
+ghost use Rattle.session.specs.State.{lengthGood, soundSession};
 ghost use Rattle.soundness.specs.Opened.{openedSession};
+use chip::Chip;
+use chip::is_newer;
 use session::Phase;
+use session::STREAMS;
 use session::Session;
+use session::is_counted;
+use session::may_stall;
 use settings::InUse;
 use settings::Settings;
 
@@ -35,6 +40,7 @@ pub fn opened() -> Session
             readback: false,
         },
         used: used,
+        left: 0,
     }
 }
 
@@ -48,18 +54,31 @@ fn value_fits(value: u16, bits: u8) -> bool
     true
 }
 
+// Whether a run in data is one that the chip can have: on an older one streaming or 1 to 3 bytes left, at an address up to the top.
+fn length_good(chip: Chip, left: u8, address: u16) -> bool
+    ensures { λ r. ⌜ r ≡ lengthGood chip left address ⌝ }
+{
+    match chip {
+        Chip::Newer => left == 0,
+        Chip::Older { part: _, top } => {
+            (is_counted(left) | (left == STREAMS)) & ((address as u64) <= top)
+        }
+    }
+}
+
 // Whether the session is sound. The list of conditions is complete: a sound session need not be one that samples lead to.
-pub fn sound(session: Session) -> bool
-    ensures { λ r. ⌜ r ≡ soundSession session ⌝ }
+pub fn sound(chip: Chip, session: Session) -> bool
+    ensures { λ r. ⌜ r ≡ soundSession chip session ⌝ }
 {
     let phase = session.phase;
     match phase {
         Phase::Rest => {
-            session.csb
+            (session.csb | !is_newer(chip))
                 & (session.bits == 0)
                 & (session.value == 0)
                 & (session.address == 0)
                 & !session.read
+                & (session.left == 0)
                 & !session.used.lsb
                 & !session.used.ascending
                 & !session.used.sdo
@@ -71,12 +90,14 @@ pub fn sound(session: Session) -> bool
                 & value_fits(session.value, session.bits)
                 & (session.address == 0)
                 & !session.read
+                & (session.left == 0)
         }
         Phase::Data => {
-            !session.csb
+            (!session.csb | may_stall(session.left, session.bits))
                 & (session.bits <= 7)
                 & value_fits(session.value, session.bits)
                 & (session.address <= 0x7FFF)
+                & length_good(chip, session.left, session.address)
         }
     }
 }

@@ -5,46 +5,51 @@ use mathlib.Core.List.{List}
 use Prim.Native.Nat.{ℕ}
 use lib.Dec.{ltb}
 use Rattle.bits.proofs.Cases.{each}
+use Rattle.chip.specs.declared.Chip.{Chip}
 use Rattle.session.specs.declared.Phase.{Phase}
 use Rattle.session.specs.declared.Phase.the-variants.{Rest, Instruction, Data}
 use Rattle.session.specs.declared.Session.{Session}
 use Rattle.session.specs.declared.Event.{Event}
 use Rattle.session.specs.declared.Event.the-variants.{Nothing, Whole}
-use Rattle.session.specs.Step.{csbFalls, csbRises, takesBit, valueWith, dataLine, withInstructionBit, withDataBit, withBit, stepOf}
-use Rattle.session.specs.Event.{isData, bitEvent, eventOf}
+use Rattle.session.specs.Step.{sdioOf, frameStarts, frameEnds, takesBit, valueWith, dataLine, withInstructionBit, withDataBit, withBit, stepOf}
+use Rattle.session.specs.State.{isData}
+use Rattle.session.specs.Event.{bitEvent, eventOf}
+use Rattle.session.proofs.Laws.{entered-settings}
 use Rattle.trace.specs.Path.{Quiet, still, more, Next, none, one, happens}
 
-pub joined : {xs : List ℕ} {s t u : Session} {i j k : ℕ} → Quiet xs s i t j → Quiet xs t j u k → Quiet xs s i u k
+pub joined : {c : Chip} {xs : List ℕ} {s t u : Session} {i j k : ℕ} → Quiet c xs s i t j → Quiet c xs t j u k → Quiet c xs s i u k
 joined p still = p
 joined p (more q h e) = more (joined p q) h e
 
-pub joined-next : {xs : List ℕ} {s t u : Session} {i j k : ℕ} {e : Event} → Quiet xs s i t j → Next xs t j e u k → Next xs s i e u k
+pub joined-next : {c : Chip} {xs : List ℕ} {s t u : Session} {i j k : ℕ} {e : Event} → Quiet c xs s i t j → Next c xs t j e u k → Next c xs s i e u k
 joined-next p (none q) = none (joined p q)
 joined-next p (one q h) = one (joined p q) h
 
--- a byte of data that is not whole
-data-settings : (s : Session) (x : ℕ) (go : Bool) → ltb (s .bits) 7 ≡ go
-    → cond go Nothing (Whole (s .read) (s .address) (valueWith s (dataLine s x))) ≡ Nothing → withDataBit s (dataLine s x) .settings ≡ s .settings
-unfolding withDataBit
-data-settings s x true h e = rw h
-data-settings s x false h e = absurd (true≢false (ap happens e))
+module _ (c : Chip) where
+  -- a byte of data that is not whole
+  data-settings : (s : Session) (x : ℕ) (go : Bool) → ltb (s .bits) 7 ≡ go
+      → cond go Nothing (Whole (s .read) (s .address) (valueWith s (dataLine c s x))) ≡ Nothing → withDataBit c s (dataLine c s x) .settings ≡ s .settings
+  unfolding withDataBit
+  data-settings s x true h e = rw h
+  data-settings s x false h e = absurd (true≢false (ap happens e))
 
-bit-settings : (p : Phase) (s : Session) (x : ℕ)
-    → cond (isData p) (cond (ltb (s .bits) 7) Nothing (Whole (s .read) (s .address) (valueWith s (dataLine s x)))) Nothing ≡ Nothing
-    → withBit p s x .settings ≡ s .settings
-unfolding withInstructionBit
-bit-settings Rest s x e = refl
-bit-settings Instruction s x e = each (λ (t : Session). t .settings ≡ s .settings) (ltb (s .bits) 15) (λ h. refl) (λ h. refl)
-bit-settings Data s x e = data-settings s x (ltb (s .bits) 7) refl e
+  bit-settings : (p : Phase) (s : Session) (x : ℕ)
+      → cond (isData p) (cond (ltb (s .bits) 7) Nothing (Whole (s .read) (s .address) (valueWith s (dataLine c s x)))) Nothing ≡ Nothing
+      → withBit c p s x .settings ≡ s .settings
+  unfolding withInstructionBit
+  bit-settings Rest s x e = refl
+  bit-settings Instruction s x e =
+      each (λ (t : Session). t .settings ≡ s .settings) (ltb (s .bits) 15) (λ h. refl) (λ h. entered-settings c (valueWith s (sdioOf x)) (s .settings) (s .used))
+  bit-settings Data s x e = data-settings s x (ltb (s .bits) 7) refl e
 
--- without an event no setting changes
-step-settings : (s : Session) (x : ℕ) → eventOf s x ≡ Nothing → stepOf s x .settings ≡ s .settings
-unfolding stepOf eventOf bitEvent
-step-settings s x e =
-    each (λ (t : Session). t .settings ≡ s .settings) (csbFalls s x) (λ f. refl)
-    (λ f. each (λ (t : Session). t .settings ≡ s .settings) (takesBit s x) (λ t. bit-settings (s .phase) s x (rw t at e))
-    (λ t. each (λ (t : Session). t .settings ≡ s .settings) (csbRises s x) (λ r. refl) (λ r. refl)))
+  -- without an event no setting changes
+  step-settings : (s : Session) (x : ℕ) → eventOf c s x ≡ Nothing → stepOf c s x .settings ≡ s .settings
+  unfolding stepOf eventOf bitEvent
+  step-settings s x e =
+      each (λ (t : Session). t .settings ≡ s .settings) (frameStarts s x) (λ f. refl)
+      (λ f. each (λ (t : Session). t .settings ≡ s .settings) (takesBit s x) (λ t. bit-settings (s .phase) s x (rw t at e))
+      (λ t. each (λ (t : Session). t .settings ≡ s .settings) (frameEnds s x) (λ r. refl) (λ r. refl)))
 
-pub settings-quiet : {xs : List ℕ} {s t : Session} {i j : ℕ} → Quiet xs s i t j → t .settings ≡ s .settings
+pub settings-quiet : {c : Chip} {xs : List ℕ} {s t : Session} {i j : ℕ} → Quiet c xs s i t j → t .settings ≡ s .settings
 settings-quiet still = refl
-settings-quiet (more q h e) = step-settings _ _ e ∙ settings-quiet q
+settings-quiet (more q h e) = step-settings _ _ _ e ∙ settings-quiet q

@@ -12,15 +12,17 @@ use lib.Bits.{and-mask}
 use borrow.Author.Tests.{eq-eqb, ne-eqb, eqb-true, lt-ltb}
 use Rattle.bits.specs.Bits.{bitAt, shiftedIn}
 use Rattle.bits.proofs.Cases.{no, each}
+use Rattle.chip.specs.declared.Chip.{Chip}
+use Rattle.settings.specs.Settings.{counting}
 use Rattle.session.specs.declared.Phase.{Phase}
 use Rattle.session.specs.declared.Phase.the-variants.{Rest, Instruction, Data}
 use Rattle.session.specs.declared.Session.{Session}
 use Rattle.session.specs.declared.Event.{Event}
 use Rattle.session.specs.declared.Event.the-variants.{Nothing}
-use Rattle.session.specs.State.{soundSession, withLevels}
-use Rattle.session.specs.Step.{csbOf, sclkOf, csbFalls, csbRises, takesBit, valueWith, withInstructionBit, withDataBit, stepOf}
-use Rattle.session.specs.Event.{isData, bitEvent, eventOf}
-use Rattle.session.proofs.Form.{Form, rests, instructs, has-data, sound-form}
+use Rattle.session.specs.State.{isData, soundSession, withLevels}
+use Rattle.session.specs.Step.{csbOf, sclkOf, csbFalls, csbRises, frameStarts, frameEnds, takesBit, valueWith, usedOn, withInstructionBit, withDataBit, stepOf}
+use Rattle.session.specs.Event.{bitEvent, eventOf}
+use Rattle.session.proofs.Form.{Form, rests, instructs, has-data, stalls, passes, sound-form}
 use Rattle.session.proofs.Laws.{sound-step, fit-sound, few-bits}
 use Rattle.trace.specs.declared.quiet.Piece.{Piece}
 use Rattle.words.specs.Words.{Same, Pair, Clocked, gathered}
@@ -54,44 +56,14 @@ sclk-level x l e =
     let d : l ≡ 2 * (x / 2 ^ 1 % 2) = omega (arith, h, e) in
     same-test (x / 2 ^ 1 % 2) 1 l 2 (λ (z : x / 2 ^ 1 % 2 ≡ 1). omega (arith, d)) (λ (z : l ≡ 2). omega (arith, d))
 
--- CSB stays and no bit is taken: only the last levels change
-stays : (s : Session) (x : ℕ) → csbFalls s x ≡ false → takesBit s x ≡ false → csbRises s x ≡ false
-    → (stepOf s x ≡ withLevels s x) × (eventOf s x ≡ Nothing)
-unfolding stepOf eventOf
-stays s x f t r = (sym (no _ f (no _ t (no _ r refl))), sym (no _ t (no _ r refl)))
-
 pub on-line : (b : Bool) (x : ℕ) → cond b (bitAt x 3) (bitAt x 2) ≡ bitAt x (cond b 3 2)
 on-line true x = refl
 on-line false x = refl
-
--- one bit more, which is not the last of its piece
-abbrev bitTaken : Session → ℕ → Session
-bitTaken s x = record {
-  csb = false;
-  sclk = true;
-  phase = s .phase;
-  bits = s .bits + 1;
-  value = valueWith s (bitAt x (lineOf s));
-  address = s .address;
-  read = s .read;
-  settings = s .settings;
-  used = s .used;
-}
-
-takes : {s : Session} → Form s → (x : ℕ) → takesBit s x ≡ true → s .bits < lastOf (s .phase) → stepOf s x ≡ bitTaken s x
-unfolding stepOf withInstructionBit withDataBit
-takes (rests k t) x b h = absurd (omega arith)
-takes (instructs k n v t u g f) x b h = rw (b, lt-ltb n 15 h)
-takes (has-data k n v a r t u g f d) x b h = rw (b, lt-ltb n 7 h, on-line (r && u .sdo) x)
 
 not-whole : (p : Phase) (n : ℕ) (e : Event) → n < lastOf p → cond (isData p) (cond (ltb n 7) Nothing e) Nothing ≡ Nothing
 not-whole Rest n e h = refl
 not-whole Instruction n e h = refl
 not-whole Data n e h = rw (lt-ltb n 7 h)
-
-takes-nothing : (s : Session) (x : ℕ) → takesBit s x ≡ true → s .bits < lastOf (s .phase) → eventOf s x ≡ Nothing
-unfolding eventOf bitEvent
-takes-nothing s x b h = rw b (not-whole (s .phase) (s .bits) _ h)
 
 -- SCLK before and now, as 0 or 2
 no-rise : (l n : ℕ) → l % 2 ≡ 0 → l < 4 → n ≤ l → (not (eqb l 2) && eqb n 2) ≡ false
@@ -107,43 +79,6 @@ rise l n e h k d =
     let t : n ≡ 2 = omega arith in
     rw (z, t)
 
--- CSB low before and now
-module _ (s : Session) (p : Piece) (x : ℕ) (low : s .csb ≡ false) (e : x % 2 ≡ 0) (apt : Apt s p) where
-  bit-test : takesBit (held s p) x ≡ (not (eqb (p .level) 2) && eqb (x % 4) 2)
-  bit-test = rw (low, csb-low x e, sclk-level x (x % 4) (omega arith))
-
-  pub bit-taken : p .level < x % 4 → takesBit (held s p) x ≡ true
-  bit-taken h = bit-test ∙ rise (p .level) (x % 4) (omega arith) (omega arith) h (apt .even)
-
-  idle-step : x % 4 ≤ p .level → (stepOf (held s p) x ≡ held s (piece (x % 4) (p .bits) (p .value) (p .at + 1))) × (eventOf (held s p) x ≡ Nothing)
-  idle-step h =
-      let b = bit-test ∙ no-rise (p .level) (x % 4) (apt .even) (apt .level) h in
-      let r = stays (held s p) x (rw low) b (rw (low, csb-low x e)) in
-      (r .0 ∙ rw (low, csb-low x e, sclk-level x (x % 4) (omega arith)), r .1)
-
-  bit-step : p .level < x % 4 → p .bits < lastOf (s .phase)
-      → (stepOf (held s p) x ≡ held s (piece (x % 4) (p .bits + 1) (shiftedIn (s .used .lsb) (p .value) (p .bits) (bitAt x (lineOf s))) (p .at + 1)))
-      × (eventOf (held s p) x ≡ Nothing)
-  bit-step h k =
-      let b = bit-taken h in
-      let t : x % 4 ≡ 2 = omega (arith, apt .even) in
-      (takes (sound-form (held s p) (apt .sound)) x b k ∙ rw (low, t), takes-nothing (held s p) x b k)
-
--- a step that gives a piece and no event
-stepped : {xs : List ℕ} {s : Session} {i : ℕ} {p : Piece} (q : Piece) → Reached xs s i p → p .at < length xs → q .at ≡ p .at + 1
-    → q .level % 2 ≡ 0 → q .level < 4 → (stepOf (held s p) (getD xs (p .at) 0) ≡ held s q) × (eventOf (held s p) (getD xs (p .at) 0) ≡ Nothing)
-    → Reached xs s i q
-stepped {xs} {s} {i} {p} q r h a ev lv e = record {
-  ahead = omega (arith, r .ahead);
-  within = omega arith;
-  apt = record { even = ev; level = lv; sound = rw (e .0) at (sound-step (held s p) (getD xs (p .at) 0) (r .apt .sound)) };
-  path = rw (e .0, sym a) at (more (r .path) h (e .1));
-}
-
--- the start: a piece as a session has it
-pub begun : {xs : List ℕ} {s : Session} (p : Piece) → Apt s p → p .at < length xs → Reached xs (held s p) (p .at) p
-begun p a h = record { ahead = omega arith; within = omega (arith, h); apt = record { even = a .even; level = a .level; sound = a .sound }; path = still }
-
 level-lt : (b : Bool) → cond b 2 0 < 4
 level-lt true = omega arith
 level-lt false = omega arith
@@ -156,135 +91,200 @@ level-is : (b : Bool) → eqb (cond b 2 0) 2 ≡ b
 level-is true = refl
 level-is false = refl
 
--- the piece of a session itself
-pub own : {xs : List ℕ} {s : Session} (p : Piece) → soundSession s ≡ true → p .at ≤ length xs
-    → p .level ≡ cond (s .sclk) 2 0 → p .bits ≡ s .bits → p .value ≡ s .value → Reached xs s (p .at) p
-own {xs} {s} p f h el eb ev =
-    let same : held s p ≡ s = rw (el, eb, ev, level-is) in
-    record {
-      ahead = omega arith;
-      within = h;
-      apt = record {
-        even = rw el (level-even (s .sclk));
-        level = rw el (level-lt (s .sclk));
-        sound = subst (λ (t : Session). soundSession t ≡ true) (sym same) f;
-      };
-      path = subst (λ (t : Session). Quiet xs s (p .at) t (p .at)) (sym same) still;
-    }
-
-module _ {xs : List ℕ} {s : Session} {i : ℕ} (low : s .csb ≡ false) where
-  pub idle : {p : Piece} → Reached xs s i p → p .at < length xs → getD xs (p .at) 0 % 2 ≡ 0 → getD xs (p .at) 0 % 4 ≤ p .level
-      → Reached xs s i (piece (getD xs (p .at) 0 % 4) (p .bits) (p .value) (p .at + 1))
-  idle {p} r h e k = stepped _ r h refl (omega arith) (omega arith) (idle-step s p (getD xs (p .at) 0) low e (r .apt) k)
-
-  pub bit : {p : Piece} → Reached xs s i p → p .at < length xs → getD xs (p .at) 0 % 2 ≡ 0 → p .level < getD xs (p .at) 0 % 4 → p .bits < lastOf (s .phase)
-      → Reached xs s i (piece (getD xs (p .at) 0 % 4) (p .bits + 1) (shiftedIn (s .used .lsb) (p .value) (p .bits) (bitAt (getD xs (p .at) 0) (lineOf s))) (p .at + 1))
-  bit {p} r h e k b = stepped _ r h refl (omega arith) (omega arith) (bit-step s p (getD xs (p .at) 0) low e (r .apt) k b)
-
-  -- n samples that change no level
-  idles : (p : Piece) (n : ℕ) → Reached xs s i p → ((k : ℕ) → k < n → getD xs (p .at + k) 0 % 4 ≡ p .level) → p .at + n ≤ length xs
-      → Reached xs s i (piece (p .level) (p .bits) (p .value) (p .at + n))
-  idles p zero r f h = rw add-zero r
-  idles p (suc n) r f h =
-      let q = idles p n r (λ k g. f k (omega arith)) (omega arith) in
-      let e = f n (omega arith) in
-      let a : p .at + n + 1 ≡ p .at + suc n = omega arith in
-      rw (e, a) at (idle q (omega arith) (omega (arith, e, r .apt .even)) (omega (arith, e)))
-
-  pub past : (p : Piece) (j : ℕ) → Reached xs s i p → Same xs 3 (p .level) (p .at) j → Reached xs s i (piece (p .level) (p .bits) (p .value) j)
-  past p j r m =
-      let a : p .at + (j - p .at) ≡ j = omega (arith, m .ahead) in
-      rw a at (idles p (j - p .at) r (λ k g. sym (and-mask (getD xs (p .at + k) 0) 2) ∙ m .all k g) (omega (arith, m .ahead, m .within)))
-
-  -- n bits, each of a pair of samples, and the first sample of the next
-  pairs : (level j n : ℕ) → Reached xs s i (piece level 0 0 j) → Clocked xs j (suc n) → n ≤ lastOf (s .phase)
-      → Reached xs s i (piece 0 n (gathered xs (lineOf s) (s .used .lsb) j n) (j + 2 * n + 1))
-  unfolding Pair gathered
-  pairs level j zero r c h =
-      let p = rw add-zero at (c .pair 0 (omega arith)) in
-      rw (p .0, ← add-zero j) at (idle r (omega (arith, c .within)) (omega (arith, p .0)) (omega (arith, p .0)))
-  pairs level j (suc n) r c h =
-      let before : Clocked xs j (suc n) = record { within = omega (arith, c .within); pair = λ k g. c .pair k (omega arith) } in
-      let q = pairs level j n r before (omega arith) in
-      let p = c .pair n (omega arith) in
-      let b = bit q (omega (arith, c .within)) (omega (arith, p .1)) (omega (arith, p .1)) (omega arith) in
-      let e : j + 2 * n + 1 + 1 ≡ j + 2 * suc n = omega arith in
-      let z : getD xs (j + 2 * n + 1 + 1) 0 % 4 ≡ 0 = rw e (c .pair (suc n) (omega arith) .0) in
-      rw (z, add-one n, e) at (idle b (omega (arith, c .within)) (omega (arith, z)) (omega (arith, z)))
-
--- at its start, a piece has no bits and no value
-pub no-value : (s : Session) → soundSession s ≡ true → s .bits ≡ 0 → s .value ≡ 0
-no-value s h e = omega (arith, rw e at (fit-sound s h .small))
-
--- all bits of a piece but the last, each of a pair of samples, and the first sample of the last
-pub bits-passed : {xs : List ℕ} {s : Session} {i : ℕ} (n : ℕ) → s .csb ≡ false → soundSession s ≡ true → s .bits ≡ 0 → n ≡ lastOf (s .phase)
-    → Clocked xs i (suc n) → i ≤ length xs
-    → Reached xs s i (piece 0 n (gathered xs (lineOf s) (s .used .lsb) i n) (i + 2 * n + 1))
-bits-passed {xs} {s} {i} n low f e l c h = pairs low (cond (s .sclk) 2 0) i n (own (piece (cond (s .sclk) 2 0) 0 0 i) f h refl (sym e) (sym (no-value s f e))) c (omega arith)
-
-last-form : {s : Session} → Form s → s .csb ≡ false → (lastOf (s .phase) ≡ 7 → ⊥) → 15 ≡ lastOf (s .phase)
-last-form (rests k t) low f = absurd (false≢true (sym low))
-last-form (instructs k n v t u g h) low f = refl
-last-form (has-data k n v a r t u g h d) low f = absurd (f refl)
-
--- with CSB low, what is not data is an instruction
-pub instruction-last : (s : Session) → soundSession s ≡ true → s .csb ≡ false → (lastOf (s .phase) ≡ 7 → ⊥) → 15 ≡ lastOf (s .phase)
-instruction-last s h = last-form (sound-form s h)
-
--- CSB high before and now
-module _ (s : Session) (p : Piece) (x : ℕ) (up : s .csb ≡ true) (e : x % 2 ≡ 1) where
-  high-step : (stepOf (held s p) x ≡ held s (piece (x % 4 - 1) (p .bits) (p .value) (p .at + 1))) × (eventOf (held s p) x ≡ Nothing)
-  high-step =
-      let r = stays (held s p) x (rw (up, csb-high x e)) (rw up) (rw up) in
-      (r .0 ∙ rw (up, csb-high x e, sclk-level x (x % 4 - 1) (omega arith)), r .1)
-
-module _ {xs : List ℕ} {s : Session} {i : ℕ} (up : s .csb ≡ true) where
-  high : {p : Piece} → Reached xs s i p → p .at < length xs → getD xs (p .at) 0 % 2 ≡ 1
-      → Reached xs s i (piece (getD xs (p .at) 0 % 4 - 1) (p .bits) (p .value) (p .at + 1))
-  high {p} r h e = stepped _ r h refl (omega arith) (omega arith) (high-step s p (getD xs (p .at) 0) up e)
-
-  -- samples with CSB high, at least one
-  highs : (p : Piece) (n : ℕ) → Reached xs s i p → ((k : ℕ) → k < suc n → getD xs (p .at + k) 0 % 2 ≡ 1) → p .at + suc n ≤ length xs
-      → Reached xs s i (piece (getD xs (p .at + n) 0 % 4 - 1) (p .bits) (p .value) (p .at + suc n))
-  highs p zero r f h =
-      let e = rw add-zero at (f 0 (omega arith)) in
-      rw add-zero (high r (omega arith) e)
-  highs p (suc n) r f h =
-      let q = highs p n r (λ k g. f k (omega arith)) (omega arith) in
-      let a : p .at + suc n + 1 ≡ p .at + suc (suc n) = omega arith in
-      rw a at (high q (omega arith) (f (suc n) (omega arith)))
-
-  pub past-high : (p : Piece) (j : ℕ) → Reached xs s i p → Same xs 1 1 (p .at) j → p .at < j
-      → Reached xs s i (piece (getD xs (j - 1) 0 % 4 - 1) (p .bits) (p .value) j)
-  past-high p j r m h =
-      let n = j - p .at - 1 in
-      let a : p .at + suc n ≡ j = omega arith in
-      let b : p .at + n ≡ j - 1 = omega arith in
-      rw (a, b) at (highs p n r (λ k g. sym (and-mask (getD xs (p .at + k) 0) 1) ∙ m .all k (omega arith)) (omega (arith, m .within)))
-
 -- seven bits before the last: in data, and in no other phase
 pub last-data : (p : Phase) → eqb (lastOf p) 7 ≡ isData p
 last-data Rest = refl
 last-data Instruction = refl
 last-data Data = refl
 
-pub line-lt : (s : Session) → lineOf s < 4
-line-lt s = each (λ (n : ℕ). n < 4) (isData (s .phase) && s .read && s .used .sdo) (λ e. omega arith) (λ e. omega arith)
-
--- what a bit more asks
-pub room-for-bit : {s : Session} {p : Piece} → Apt s p → (p .bits < 16) × (p .value < 2 ^ p .bits)
-room-for-bit {s} {p} a =
-    let f = fit-sound (held s p) (a .sound) in
-    (few-bits (s .phase) (p .bits) (f .unfinished), f .small)
-
 pub even-level : (x : ℕ) → (x % 4 % 2 ≡ 1 → ⊥) → x % 2 ≡ 0
 even-level x f = omega (arith, f)
 
--- from a piece that is reached to another
-pub reached-join : {xs : List ℕ} {s : Session} {i : ℕ} {p q : Piece} → Reached xs s i p → Reached xs (held s p) (p .at) q → Reached xs s i q
-reached-join r t = record {
-  ahead = omega (arith, r .ahead, t .ahead);
-  within = t .within;
-  apt = record { even = t .apt .even; level = t .apt .level; sound = t .apt .sound };
-  path = joined (r .path) (t .path);
-}
+module _ (c : Chip) where
+  -- CSB stays and no bit is taken: only the last levels change
+  stays : (s : Session) (x : ℕ) → csbFalls s x ≡ false → takesBit s x ≡ false → csbRises s x ≡ false
+      → (stepOf c s x ≡ withLevels s x) × (eventOf c s x ≡ Nothing)
+  unfolding stepOf eventOf
+  stays s x f t r =
+      let f' : frameStarts s x ≡ false = rw f in
+      let r' : frameEnds s x ≡ false = rw r in
+      (sym (no _ f' (no _ t (no _ r' refl))), sym (no _ t (no _ r refl)))
+
+  -- one bit more, which is not the last of its piece
+  abbrev bitTaken : Session → ℕ → Session
+  bitTaken s x = record {
+    csb = false;
+    sclk = true;
+    phase = s .phase;
+    bits = s .bits + 1;
+    value = valueWith s (bitAt x (lineOf c s));
+    address = s .address;
+    read = s .read;
+    left = s .left;
+    settings = s .settings;
+    used = s .used;
+  }
+
+  takes : {s : Session} → Form c s → (x : ℕ) → takesBit s x ≡ true → s .bits < lastOf (s .phase) → stepOf c s x ≡ bitTaken s x
+  unfolding stepOf withInstructionBit withDataBit
+  takes (rests k t) x b h = absurd (omega arith)
+  takes (instructs k n v t u g f) x b h = rw (b, lt-ltb n 15 h)
+  takes (has-data k n v a r l t u g f d o) x b h = rw (b, lt-ltb n 7 h, on-line (r && counting c u .sdo) x)
+  takes (stalls k a r l t u f e d) x b h = absurd (false≢true b)
+  takes (passes k t e) x b h = absurd (omega arith)
+
+  takes-nothing : (s : Session) (x : ℕ) → takesBit s x ≡ true → s .bits < lastOf (s .phase) → eventOf c s x ≡ Nothing
+  unfolding eventOf bitEvent
+  takes-nothing s x b h = rw b (not-whole (s .phase) (s .bits) _ h)
+
+  -- CSB low before and now
+  module _ (s : Session) (p : Piece) (x : ℕ) (low : s .csb ≡ false) (e : x % 2 ≡ 0) (apt : Apt c s p) where
+    bit-test : takesBit (held s p) x ≡ (not (eqb (p .level) 2) && eqb (x % 4) 2)
+    bit-test = rw (low, csb-low x e, sclk-level x (x % 4) (omega arith))
+
+    pub bit-taken : p .level < x % 4 → takesBit (held s p) x ≡ true
+    bit-taken h = bit-test ∙ rise (p .level) (x % 4) (omega arith) (omega arith) h (apt .even)
+
+    idle-step : x % 4 ≤ p .level → (stepOf c (held s p) x ≡ held s (piece (x % 4) (p .bits) (p .value) (p .at + 1))) × (eventOf c (held s p) x ≡ Nothing)
+    idle-step h =
+        let b = bit-test ∙ no-rise (p .level) (x % 4) (apt .even) (apt .level) h in
+        let r = stays (held s p) x (rw low) b (rw (low, csb-low x e)) in
+        (r .0 ∙ rw (low, csb-low x e, sclk-level x (x % 4) (omega arith)), r .1)
+
+    bit-step : p .level < x % 4 → p .bits < lastOf (s .phase)
+        → (stepOf c (held s p) x ≡ held s (piece (x % 4) (p .bits + 1) (shiftedIn (s .used .lsb) (p .value) (p .bits) (bitAt x (lineOf c s))) (p .at + 1)))
+        × (eventOf c (held s p) x ≡ Nothing)
+    bit-step h k =
+        let b = bit-taken h in
+        let t : x % 4 ≡ 2 = omega (arith, apt .even) in
+        (takes (sound-form c (held s p) (apt .sound)) x b k ∙ rw (low, t), takes-nothing (held s p) x b k)
+
+  -- a step that gives a piece and no event
+  stepped : {xs : List ℕ} {s : Session} {i : ℕ} {p : Piece} (q : Piece) → Reached c xs s i p → p .at < length xs → q .at ≡ p .at + 1
+      → q .level % 2 ≡ 0 → q .level < 4 → (stepOf c (held s p) (getD xs (p .at) 0) ≡ held s q) × (eventOf c (held s p) (getD xs (p .at) 0) ≡ Nothing)
+      → Reached c xs s i q
+  stepped {xs} {s} {i} {p} q r h a ev lv e = record {
+    ahead = omega (arith, r .ahead);
+    within = omega arith;
+    apt = record { even = ev; level = lv; sound = rw (e .0) at (sound-step c (held s p) (getD xs (p .at) 0) (r .apt .sound)) };
+    path = rw (e .0, sym a) at (more (r .path) h (e .1));
+  }
+
+  -- the start: a piece as a session has it
+  pub begun : {xs : List ℕ} {s : Session} (p : Piece) → Apt c s p → p .at < length xs → Reached c xs (held s p) (p .at) p
+  begun p a h = record { ahead = omega arith; within = omega (arith, h); apt = record { even = a .even; level = a .level; sound = a .sound }; path = still }
+
+  -- the piece of a session itself
+  pub own : {xs : List ℕ} {s : Session} (p : Piece) → soundSession c s ≡ true → p .at ≤ length xs
+      → p .level ≡ cond (s .sclk) 2 0 → p .bits ≡ s .bits → p .value ≡ s .value → Reached c xs s (p .at) p
+  own {xs} {s} p f h el eb ev =
+      let same : held s p ≡ s = rw (el, eb, ev, level-is) in
+      record {
+        ahead = omega arith;
+        within = h;
+        apt = record {
+          even = rw el (level-even (s .sclk));
+          level = rw el (level-lt (s .sclk));
+          sound = subst (λ (t : Session). soundSession c t ≡ true) (sym same) f;
+        };
+        path = subst (λ (t : Session). Quiet c xs s (p .at) t (p .at)) (sym same) still;
+      }
+
+  module _ {xs : List ℕ} {s : Session} {i : ℕ} (low : s .csb ≡ false) where
+    pub idle : {p : Piece} → Reached c xs s i p → p .at < length xs → getD xs (p .at) 0 % 2 ≡ 0 → getD xs (p .at) 0 % 4 ≤ p .level
+        → Reached c xs s i (piece (getD xs (p .at) 0 % 4) (p .bits) (p .value) (p .at + 1))
+    idle {p} r h e k = stepped _ r h refl (omega arith) (omega arith) (idle-step s p (getD xs (p .at) 0) low e (r .apt) k)
+
+    pub bit : {p : Piece} → Reached c xs s i p → p .at < length xs → getD xs (p .at) 0 % 2 ≡ 0 → p .level < getD xs (p .at) 0 % 4 → p .bits < lastOf (s .phase)
+        → Reached c xs s i (piece (getD xs (p .at) 0 % 4) (p .bits + 1) (shiftedIn (s .used .lsb) (p .value) (p .bits) (bitAt (getD xs (p .at) 0) (lineOf c s))) (p .at + 1))
+    bit {p} r h e k b = stepped _ r h refl (omega arith) (omega arith) (bit-step s p (getD xs (p .at) 0) low e (r .apt) k b)
+
+    -- n samples that change no level
+    idles : (p : Piece) (n : ℕ) → Reached c xs s i p → ((k : ℕ) → k < n → getD xs (p .at + k) 0 % 4 ≡ p .level) → p .at + n ≤ length xs
+        → Reached c xs s i (piece (p .level) (p .bits) (p .value) (p .at + n))
+    idles p zero r f h = rw add-zero r
+    idles p (suc n) r f h =
+        let q = idles p n r (λ k g. f k (omega arith)) (omega arith) in
+        let e = f n (omega arith) in
+        let a : p .at + n + 1 ≡ p .at + suc n = omega arith in
+        rw (e, a) at (idle q (omega arith) (omega (arith, e, r .apt .even)) (omega (arith, e)))
+
+    pub past : (p : Piece) (j : ℕ) → Reached c xs s i p → Same xs 3 (p .level) (p .at) j → Reached c xs s i (piece (p .level) (p .bits) (p .value) j)
+    past p j r m =
+        let a : p .at + (j - p .at) ≡ j = omega (arith, m .ahead) in
+        rw a at (idles p (j - p .at) r (λ k g. sym (and-mask (getD xs (p .at + k) 0) 2) ∙ m .all k g) (omega (arith, m .ahead, m .within)))
+
+    -- n bits, each of a pair of samples, and the first sample of the next
+    pairs : (level j n : ℕ) → Reached c xs s i (piece level 0 0 j) → Clocked xs j (suc n) → n ≤ lastOf (s .phase)
+        → Reached c xs s i (piece 0 n (gathered xs (lineOf c s) (s .used .lsb) j n) (j + 2 * n + 1))
+    unfolding Pair gathered
+    pairs level j zero r c h =
+        let p = rw add-zero at (c .pair 0 (omega arith)) in
+        rw (p .0, ← add-zero j) at (idle r (omega (arith, c .within)) (omega (arith, p .0)) (omega (arith, p .0)))
+    pairs level j (suc n) r c h =
+        let before : Clocked xs j (suc n) = record { within = omega (arith, c .within); pair = λ k g. c .pair k (omega arith) } in
+        let q = pairs level j n r before (omega arith) in
+        let p = c .pair n (omega arith) in
+        let b = bit q (omega (arith, c .within)) (omega (arith, p .1)) (omega (arith, p .1)) (omega arith) in
+        let e : j + 2 * n + 1 + 1 ≡ j + 2 * suc n = omega arith in
+        let z : getD xs (j + 2 * n + 1 + 1) 0 % 4 ≡ 0 = rw e (c .pair (suc n) (omega arith) .0) in
+        rw (z, add-one n, e) at (idle b (omega (arith, c .within)) (omega (arith, z)) (omega (arith, z)))
+
+  -- at its start, a piece has no bits and no value
+  pub no-value : (s : Session) → soundSession c s ≡ true → s .bits ≡ 0 → s .value ≡ 0
+  no-value s h e = omega (arith, rw e at (fit-sound c s h .small))
+
+  -- all bits of a piece but the last, each of a pair of samples, and the first sample of the last
+  pub bits-passed : {xs : List ℕ} {s : Session} {i : ℕ} (n : ℕ) → s .csb ≡ false → soundSession c s ≡ true → s .bits ≡ 0 → n ≡ lastOf (s .phase)
+      → Clocked xs i (suc n) → i ≤ length xs
+      → Reached c xs s i (piece 0 n (gathered xs (lineOf c s) (s .used .lsb) i n) (i + 2 * n + 1))
+  bits-passed {xs} {s} {i} n low f e l c h = pairs low (cond (s .sclk) 2 0) i n (own (piece (cond (s .sclk) 2 0) 0 0 i) f h refl (sym e) (sym (no-value s f e))) c (omega arith)
+
+  -- CSB high before and now
+  module _ (s : Session) (p : Piece) (x : ℕ) (up : s .csb ≡ true) (e : x % 2 ≡ 1) where
+    high-step : (stepOf c (held s p) x ≡ held s (piece (x % 4 - 1) (p .bits) (p .value) (p .at + 1))) × (eventOf c (held s p) x ≡ Nothing)
+    high-step =
+        let r = stays (held s p) x (rw (up, csb-high x e)) (rw up) (rw up) in
+        (r .0 ∙ rw (up, csb-high x e, sclk-level x (x % 4 - 1) (omega arith)), r .1)
+
+  module _ {xs : List ℕ} {s : Session} {i : ℕ} (up : s .csb ≡ true) where
+    high : {p : Piece} → Reached c xs s i p → p .at < length xs → getD xs (p .at) 0 % 2 ≡ 1
+        → Reached c xs s i (piece (getD xs (p .at) 0 % 4 - 1) (p .bits) (p .value) (p .at + 1))
+    high {p} r h e = stepped _ r h refl (omega arith) (omega arith) (high-step s p (getD xs (p .at) 0) up e)
+
+    -- samples with CSB high, at least one
+    highs : (p : Piece) (n : ℕ) → Reached c xs s i p → ((k : ℕ) → k < suc n → getD xs (p .at + k) 0 % 2 ≡ 1) → p .at + suc n ≤ length xs
+        → Reached c xs s i (piece (getD xs (p .at + n) 0 % 4 - 1) (p .bits) (p .value) (p .at + suc n))
+    highs p zero r f h =
+        let e = rw add-zero at (f 0 (omega arith)) in
+        rw add-zero (high r (omega arith) e)
+    highs p (suc n) r f h =
+        let q = highs p n r (λ k g. f k (omega arith)) (omega arith) in
+        let a : p .at + suc n + 1 ≡ p .at + suc (suc n) = omega arith in
+        rw a at (high q (omega arith) (f (suc n) (omega arith)))
+
+    pub past-high : (p : Piece) (j : ℕ) → Reached c xs s i p → Same xs 1 1 (p .at) j → p .at < j
+        → Reached c xs s i (piece (getD xs (j - 1) 0 % 4 - 1) (p .bits) (p .value) j)
+    past-high p j r m h =
+        let n = j - p .at - 1 in
+        let a : p .at + suc n ≡ j = omega arith in
+        let b : p .at + n ≡ j - 1 = omega arith in
+        rw (a, b) at (highs p n r (λ k g. sym (and-mask (getD xs (p .at + k) 0) 1) ∙ m .all k (omega arith)) (omega (arith, m .within)))
+
+  pub line-lt : (s : Session) → lineOf c s < 4
+  line-lt s = each (λ (n : ℕ). n < 4) (isData (s .phase) && s .read && usedOn c s .sdo) (λ e. omega arith) (λ e. omega arith)
+
+  -- what a bit more asks
+  pub room-for-bit : {s : Session} {p : Piece} → Apt c s p → (p .bits < 16) × (p .value < 2 ^ p .bits)
+  room-for-bit {s} {p} a =
+      let f = fit-sound c (held s p) (a .sound) in
+      (few-bits (s .phase) (p .bits) (f .unfinished), f .small)
+
+  -- from a piece that is reached to another
+  pub reached-join : {xs : List ℕ} {s : Session} {i : ℕ} {p q : Piece} → Reached c xs s i p → Reached c xs (held s p) (p .at) q → Reached c xs s i q
+  reached-join r t = record {
+    ahead = omega (arith, r .ahead, t .ahead);
+    within = t .within;
+    apt = record { even = t .apt .even; level = t .apt .level; sound = t .apt .sound };
+    path = joined (r .path) (t .path);
+  }

@@ -6,6 +6,7 @@ use Prim.Native.Nat.{ℕ, _+_, _<_, _≤_}
 use native.Mathlib.Omega.{arith}
 use lib.ListN.{length, getD}
 use Rattle.settings.specs.Settings.{nextAddress}
+use Rattle.chip.specs.declared.Chip.{Chip}
 use Rattle.session.specs.declared.Session.{Session}
 use Rattle.session.specs.declared.Event.{Event}
 use Rattle.session.specs.declared.Event.the-variants.{Nothing, Whole, Aborted}
@@ -20,48 +21,49 @@ use Rattle.trace.specs.Piece.{held, lineOf, Reached, ByteAhead}
 use Rattle.trace.proofs.Paths.{joined, joined-next}
 use Rattle.trace.proofs.Whole.{moved, whole-byte}
 
--- from session s₀ before sample i to session s before sample j
-pub record Scanned (xs : List ℕ) (s₀ : Session) (i : ℕ) (s : Session) (j : ℕ) : Type 0 where
-  pub ahead : i ≤ j
-  pub within : j ≤ length xs
-  pub sound : soundSession s ≡ true
-  pub path : Quiet xs s₀ i s j
-
-pub scan-begun : {xs : List ℕ} {s : Session} {i : ℕ} → soundSession s ≡ true → i ≤ length xs → Scanned xs s i s i
-scan-begun f h = record { ahead = omega arith; within = h; sound = f; path = still }
-
 pub quiet-event : (e : Event) → happens e ≡ false → e ≡ Nothing
 quiet-event Nothing h = refl
 quiet-event (Whole r a v) h = absurd (true≢false h)
 quiet-event (Aborted a b d) h = absurd (true≢false h)
 
-module _ {xs : List ℕ} {s₀ : Session} {i : ℕ} {s : Session} {j : ℕ} (k : Scanned xs s₀ i s j) where
-  pub scan-quiet : {p : Piece} → Reached xs s j p → Scanned xs s₀ i (held s p) (p .at)
-  scan-quiet r = record { ahead = omega (arith, r .ahead); within = r .within; sound = r .apt .sound; path = joined (k .path) (r .path) }
+module _ (c : Chip) where
+  -- from session s₀ before sample i to session s before sample j
+  pub record Scanned (xs : List ℕ) (s₀ : Session) (i : ℕ) (s : Session) (j : ℕ) : Type 0 where
+    pub ahead : i ≤ j
+    pub within : j ≤ length xs
+    pub sound : soundSession c s ≡ true
+    pub path : Quiet c xs s₀ i s j
 
-  pub scan-nothing : (t : Session) (e : Event) → j < length xs → t ≡ stepOf s (getD xs j 0) → e ≡ eventOf s (getD xs j 0) → happens e ≡ false
-      → Scanned xs s₀ i t (j + 1)
-  scan-nothing t e h es ee q =
-      rw es
-      (record {
-        ahead = omega arith;
-        within = omega arith;
-        sound = sound-step s (getD xs j 0) (k .sound);
-        path = more (k .path) h (sym ee ∙ quiet-event e q);
-      })
+  pub scan-begun : {xs : List ℕ} {s : Session} {i : ℕ} → soundSession c s ≡ true → i ≤ length xs → Scanned xs s i s i
+  scan-begun f h = record { ahead = omega arith; within = h; sound = f; path = still }
 
-  pub scan-event : (t : Session) (e : Event) → j < length xs → t ≡ stepOf s (getD xs j 0) → e ≡ eventOf s (getD xs j 0) → Passed xs s₀ i e t (j + 1)
-  scan-event t e h es ee = rw (es, ee) (record { further = omega arith; within = omega arith; path = one (k .path) h })
+  module _ {xs : List ℕ} {s₀ : Session} {i : ℕ} {s : Session} {j : ℕ} (k : Scanned xs s₀ i s j) where
+    pub scan-quiet : {p : Piece} → Reached c xs s j p → Scanned xs s₀ i (held s p) (p .at)
+    scan-quiet r = record { ahead = omega (arith, r .ahead); within = r .within; sound = r .apt .sound; path = joined (k .path) (r .path) }
 
-  pub scan-byte : (e : Event) (a : ℕ) → ByteAhead xs s j → e ≡ Whole (s .read) (s .address) (gathered xs (lineOf s) (s .used .lsb) j 8)
-      → a ≡ nextAddress (s .used .ascending) (s .address) → Passed xs s₀ i e (moved s a) (j + 16)
-  scan-byte e a b ee ea =
-      rw (ee, ea)
-      (record {
-        further = omega arith;
-        within = b .clocked .within;
-        path = joined-next (k .path) (whole-byte (k .sound) b);
-      })
+    pub scan-nothing : (t : Session) (e : Event) → j < length xs → t ≡ stepOf c s (getD xs j 0) → e ≡ eventOf c s (getD xs j 0) → happens e ≡ false
+        → Scanned xs s₀ i t (j + 1)
+    scan-nothing t e h es ee q =
+        rw es
+        (record {
+          ahead = omega arith;
+          within = omega arith;
+          sound = sound-step c s (getD xs j 0) (k .sound);
+          path = more (k .path) h (sym ee ∙ quiet-event e q);
+        })
 
-  pub scan-ended : (e : Event) → e ≡ Nothing → i < length xs → length xs ≤ j → Passed xs s₀ i e s j
-  scan-ended e q h l = rw q (record { further = omega arith; within = k .within; path = none (k .path) })
+    pub scan-event : (t : Session) (e : Event) → j < length xs → t ≡ stepOf c s (getD xs j 0) → e ≡ eventOf c s (getD xs j 0) → Passed c xs s₀ i e t (j + 1)
+    scan-event t e h es ee = rw (es, ee) (record { further = omega arith; within = omega arith; path = one (k .path) h })
+
+    pub scan-byte : (e : Event) (a : ℕ) → ByteAhead c xs s j → e ≡ Whole (s .read) (s .address) (gathered xs (lineOf c s) (s .used .lsb) j 8)
+        → a ≡ nextAddress (s .used .ascending) (s .address) → Passed c xs s₀ i e (moved s a) (j + 16)
+    scan-byte e a b ee ea =
+        rw (ee, ea)
+        (record {
+          further = omega arith;
+          within = b .clocked .within;
+          path = joined-next (k .path) (whole-byte (k .sound) b);
+        })
+
+    pub scan-ended : (e : Event) → e ≡ Nothing → i < length xs → length xs ≤ j → Passed c xs s₀ i e s j
+    scan-ended e q h l = rw q (record { further = omega arith; within = k .within; path = none (k .path) })

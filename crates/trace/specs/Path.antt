@@ -4,6 +4,7 @@ use mathlib.Core.Path.{_≡_}
 use mathlib.Core.Bool.{Bool, true, false}
 use mathlib.Core.List.{List}
 use lib.ListN.{length, getD}
+use Rattle.chip.specs.declared.Chip.{Chip}
 use Rattle.session.specs.declared.Session.{Session}
 use Rattle.session.specs.declared.Event.{Event}
 use Rattle.session.specs.declared.Event.the-variants.{Nothing, Whole, Aborted}
@@ -11,22 +12,22 @@ use Rattle.session.specs.Step.{stepOf}
 use Rattle.session.specs.Event.{eventOf}
 
 -- Session s before sample i becomes t before sample j, and no sample between gives an event.
-pub data Quiet (xs : List ℕ) (s : Session) (i : ℕ) : Session → ℕ → Type 0 where
-  still : Quiet xs s i s i
-  more : {t : Session} {j : ℕ} → Quiet xs s i t j → j < length xs → eventOf t (getD xs j 0) ≡ Nothing
-      → Quiet xs s i (stepOf t (getD xs j 0)) (j + 1)
+pub data Quiet (c : Chip) (xs : List ℕ) (s : Session) (i : ℕ) : Session → ℕ → Type 0 where
+  still : Quiet c xs s i s i
+  more : {t : Session} {j : ℕ} → Quiet c xs s i t j → j < length xs → eventOf c t (getD xs j 0) ≡ Nothing
+      → Quiet c xs s i (stepOf c t (getD xs j 0)) (j + 1)
 
 -- The same, and then one sample whatever it gives, or none.
-pub data Next (xs : List ℕ) (s : Session) (i : ℕ) : Event → Session → ℕ → Type 0 where
-  none : {t : Session} {j : ℕ} → Quiet xs s i t j → Next xs s i Nothing t j
-  one : {t : Session} {j : ℕ} → Quiet xs s i t j → j < length xs
-      → Next xs s i (eventOf t (getD xs j 0)) (stepOf t (getD xs j 0)) (j + 1)
+pub data Next (c : Chip) (xs : List ℕ) (s : Session) (i : ℕ) : Event → Session → ℕ → Type 0 where
+  none : {t : Session} {j : ℕ} → Quiet c xs s i t j → Next c xs s i Nothing t j
+  one : {t : Session} {j : ℕ} → Quiet c xs s i t j → j < length xs
+      → Next c xs s i (eventOf c t (getD xs j 0)) (stepOf c t (getD xs j 0)) (j + 1)
 
 -- what is promised of the next event: at least one sample is passed
-pub record Passed (xs : List ℕ) (s : Session) (i : ℕ) (e : Event) (t : Session) (j : ℕ) : Type 0 where
+pub record Passed (c : Chip) (xs : List ℕ) (s : Session) (i : ℕ) (e : Event) (t : Session) (j : ℕ) : Type 0 where
   pub further : i < j
   pub within : j ≤ length xs
-  pub path : Next xs s i e t j
+  pub path : Next c xs s i e t j
 
 -- whether there is an event
 abbrev pub happens : Event → Bool

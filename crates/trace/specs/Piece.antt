@@ -6,11 +6,13 @@ use mathlib.Core.List.{List, [], _∷_}
 use lib.ListN.{length}
 use lib.Dec.{eqb, leb}
 use Rattle.bits.specs.Tests.{every}
+use Rattle.chip.specs.declared.Chip.{Chip}
+use Rattle.chip.specs.Chip.{isNewer}
 use Rattle.session.specs.declared.Phase.{Phase}
 use Rattle.session.specs.declared.Phase.the-variants.{Rest, Instruction, Data}
 use Rattle.session.specs.declared.Session.{Session}
-use Rattle.session.specs.State.{soundSession}
-use Rattle.session.specs.Event.{isData}
+use Rattle.session.specs.State.{isData, soundSession}
+use Rattle.session.specs.Step.{usedOn}
 use Rattle.trace.specs.declared.quiet.Piece.{Piece}
 use Rattle.words.specs.Words.{Clocked}
 use Rattle.trace.specs.Path.{Quiet}
@@ -25,6 +27,7 @@ held s p = record {
   value = p .value;
   address = s .address;
   read = s .read;
+  left = s .left;
   settings = s .settings;
   used = s .used;
 }
@@ -36,28 +39,28 @@ lastOf Instruction = 15
 lastOf Data = 7
 
 -- the line that bits come from, as its place in a sample
-abbrev pub lineOf : Session → ℕ
-lineOf s = cond (isData (s .phase) && s .read && s .used .sdo) 3 2
+abbrev pub lineOf : Chip → Session → ℕ
+lineOf c s = cond (isData (s .phase) && s .read && usedOn c s .sdo) 3 2
 
 -- a level of SCLK, 0 or 2, and a session that is sound with the piece
-pub record Apt (s : Session) (p : Piece) : Type 0 where
+pub record Apt (c : Chip) (s : Session) (p : Piece) : Type 0 where
   pub even : p .level % 2 ≡ 0
   pub level : p .level < 4
-  pub sound : soundSession (held s p) ≡ true
+  pub sound : soundSession c (held s p) ≡ true
 
 -- from session s before sample i, without an event, to where a piece stands
-pub record Reached (xs : List ℕ) (s : Session) (i : ℕ) (p : Piece) : Type 0 where
+pub record Reached (c : Chip) (xs : List ℕ) (s : Session) (i : ℕ) (p : Piece) : Type 0 where
   pub ahead : i ≤ p .at
   pub within : p .at ≤ length xs
-  pub apt : Apt s p
-  pub path : Quiet xs s i (held s p) (p .at)
+  pub apt : Apt c s p
+  pub path : Quiet c xs s i (held s p) (p .at)
 
--- a byte of data starts whose end changes only the address
-abbrev pub streamTests : Session → List Bool
-streamTests s =
-    isData (s .phase) ∷ eqb (s .bits) 0 ∷ not (s .csb) ∷ not (s .used .single) ∷ (s .read || leb 2 (s .address)) ∷ []
+-- on a newer chip, a byte of data starts whose end changes only the address
+abbrev pub streamTests : Chip → Session → List Bool
+streamTests c s =
+    isNewer c ∷ isData (s .phase) ∷ eqb (s .bits) 0 ∷ not (s .csb) ∷ not (s .used .single) ∷ (s .read || leb 2 (s .address)) ∷ []
 
 -- and its sixteen samples come next
-pub record ByteAhead (xs : List ℕ) (s : Session) (i : ℕ) : Type 0 where
-  pub streams : every (streamTests s) ≡ true
+pub record ByteAhead (c : Chip) (xs : List ℕ) (s : Session) (i : ℕ) : Type 0 where
+  pub streams : every (streamTests c s) ≡ true
   pub clocked : Clocked xs i 8

@@ -16,6 +16,8 @@ use crate::quiet::last_of;
 use crate::quiet::line_of;
 use crate::quiet::quiet;
 use card::in_order;
+use chip::Chip;
+use chip::is_newer;
 use session::Event;
 use session::Session;
 use words::clocked;
@@ -47,12 +49,13 @@ fn happened(event: Event) -> bool
     }
 }
 
-// Whether a byte of data starts whose end changes only the address.
-fn streams(session: Session) -> bool
-    ensures { λ r. ⌜ r ≡ every (streamTests session) ⌝ }
+// Whether, on a newer chip, a byte of data starts whose end changes only the address.
+fn streams(chip: Chip, session: Session) -> bool
+    ensures { λ r. ⌜ r ≡ every (streamTests chip session) ⌝ }
 {
     let phase = session.phase;
-    (last_of(phase) == 7)
+    is_newer(chip)
+        & (last_of(phase) == 7)
         & (session.bits == 0)
         & !session.csb
         & !session.used.single
@@ -60,22 +63,22 @@ fn streams(session: Session) -> bool
 }
 
 // Whether such a byte comes next, and each of its bits takes two samples.
-fn byte_ahead(session: Session, samples: &[u8], from: usize) -> bool
+fn byte_ahead(chip: Chip, session: Session, samples: &[u8], from: usize) -> bool
     requires { ⌜ from ≤ length (now samples) ⌝ }
-    ensures { λ r. ⌜ (r ≡ true → ByteAhead (now (samples .entry)) session from) ⌝ }
+    ensures { λ r. ⌜ (r ≡ true → ByteAhead chip (now (samples .entry)) session from) ⌝ }
 {
-    if streams(session) {
+    if streams(chip, session) {
         return clocked(samples, from);
     }
     false
 }
 
 // The event of such a byte: gathered highest bit first, and turned by the card where it travels the other way.
-fn byte_event(session: Session, samples: &[u8], from: usize) -> Event
-    requires { ⌜ ByteAhead (now samples) session from ⌝ }
-    ensures { λ r. ⌜ r ≡ Whole (session .read) (session .address) (gathered (now (samples .entry)) (lineOf session) (session .used .lsb) from 8) ⌝ }
+fn byte_event(chip: Chip, session: Session, samples: &[u8], from: usize) -> Event
+    requires { ⌜ ByteAhead chip (now samples) session from ⌝ }
+    ensures { λ r. ⌜ r ≡ Whole (session .read) (session .address) (gathered (now (samples .entry)) (lineOf chip session) (session .used .lsb) from 8) ⌝ }
 {
-    let byte = gather(samples, from, line_of(session), false, 8) as u8;
+    let byte = gather(samples, from, line_of(chip, session), false, 8) as u8;
     Event::Whole {
         read: session.read,
         address: session.address,
@@ -84,22 +87,22 @@ fn byte_event(session: Session, samples: &[u8], from: usize) -> Event
 }
 
 // The samples from a place on up to the next event, or to their end.
-pub fn next_event(session: Session, samples: &[u8], from: usize) -> Next
-    requires { ⌜ (soundSession session ≡ true) × (from < length (now samples)) ⌝ }
-    ensures { λ r. ⌜ Passed (now (samples .entry)) session from (r .event) (r .session) (r .at) ⌝ }
+pub fn next_event(chip: Chip, session: Session, samples: &[u8], from: usize) -> Next
+    requires { ⌜ (soundSession chip session ≡ true) × (from < length (now samples)) ⌝ }
+    ensures { λ r. ⌜ Passed chip (now (samples .entry)) session from (r .event) (r .session) (r .at) ⌝ }
 {
     let mut event = Event::Nothing;
     let mut s = session;
     let mut at = from;
     while at < samples.len() {
-        if byte_ahead(s, samples, at) {
-            event = byte_event(s, samples, at);
+        if byte_ahead(chip, s, samples, at) {
+            event = byte_event(chip, s, samples, at);
             s.sclk = true;
             s.address = settings::next_address(s.used.ascending, s.address);
             at += 16;
             break;
         }
-        let p = quiet(s, samples, at);
+        let p = quiet(chip, s, samples, at);
         s.sclk = p.level == 2;
         s.bits = p.bits;
         s.value = p.value;
@@ -108,8 +111,8 @@ pub fn next_event(session: Session, samples: &[u8], from: usize) -> Next
             break;
         }
         let x = samples[at];
-        event = s.event(x);
-        s = s.step(x);
+        event = s.event(chip, x);
+        s = s.step(chip, x);
         at += 1;
         if happened(event) {
             return Next {

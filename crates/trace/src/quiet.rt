@@ -7,6 +7,7 @@ ghost use Rattle.session.specs.State.{soundSession};
 ghost use Rattle.trace.specs.Piece.{held, lastOf, lineOf, Apt, Reached};
 use bits::bit_at;
 use bits::shift_in;
+use chip::Chip;
 use session::Phase;
 use session::Session;
 use words::clocked;
@@ -34,11 +35,12 @@ pub fn last_of(phase: Phase) -> u8
 }
 
 // The line that bits come from, as its place in a sample.
-pub fn line_of(session: Session) -> u8
-    ensures { λ r. ⌜ r ≡ lineOf session ⌝ }
+pub fn line_of(chip: Chip, session: Session) -> u8
+    ensures { λ r. ⌜ r ≡ lineOf chip session ⌝ }
 {
     let phase = session.phase;
-    if (last_of(phase) == 7) & session.read & session.used.sdo {
+    let used = session.used;
+    if (last_of(phase) == 7) & session.read & used.counting(chip).sdo {
         3
     } else {
         2
@@ -53,9 +55,9 @@ fn level_of(sclk: bool) -> u8
 }
 
 // Past a sample with CSB low, or more where no level changes; not past one that ends the piece.
-fn past_low(session: Session, samples: &[u8], p: Piece) -> Piece
-    requires { ⌜ (session .csb ≡ false) × (Apt session p) × (p .at < length (now samples)) ⌝ }
-    ensures { λ r. ⌜ Reached (now (samples .entry)) (held session p) (p .at) r ⌝ }
+fn past_low(chip: Chip, session: Session, samples: &[u8], p: Piece) -> Piece
+    requires { ⌜ (session .csb ≡ false) × (Apt chip session p) × (p .at < length (now samples)) ⌝ }
+    ensures { λ r. ⌜ Reached chip (now (samples .entry)) (held session p) (p .at) r ⌝ }
 {
     let at = p.at;
     let next = past_same(samples, at, 3, p.level);
@@ -82,7 +84,7 @@ fn past_low(session: Session, samples: &[u8], p: Piece) -> Piece
     }
     let phase = session.phase;
     if p.bits < last_of(phase) {
-        let bit = bit_at(x, line_of(session));
+        let bit = bit_at(x, line_of(chip, session));
         return Piece {
             level: level,
             bits: p.bits + 1,
@@ -94,9 +96,9 @@ fn past_low(session: Session, samples: &[u8], p: Piece) -> Piece
 }
 
 // At the start of a piece, past all its bits but the last, where each takes two samples.
-fn past_bits(session: Session, samples: &[u8], from: usize) -> Piece
-    requires { ⌜ (session .csb ≡ false) × (soundSession session ≡ true) × (from ≤ length (now samples)) ⌝ }
-    ensures { λ r. ⌜ Reached (now (samples .entry)) session from r ⌝ }
+fn past_bits(chip: Chip, session: Session, samples: &[u8], from: usize) -> Piece
+    requires { ⌜ (session .csb ≡ false) × (soundSession chip session ≡ true) × (from ≤ length (now samples)) ⌝ }
+    ensures { λ r. ⌜ Reached chip (now (samples .entry)) session from r ⌝ }
 {
     let start = Piece {
         level: level_of(session.sclk),
@@ -111,7 +113,7 @@ fn past_bits(session: Session, samples: &[u8], from: usize) -> Piece
         return start;
     }
     let phase = session.phase;
-    let line = line_of(session);
+    let line = line_of(chip, session);
     let lsb = session.used.lsb;
     if last_of(phase) == 7 {
         return Piece {
@@ -120,6 +122,9 @@ fn past_bits(session: Session, samples: &[u8], from: usize) -> Piece
             value: gather(samples, from, line, lsb, 7),
             at: from + 15,
         };
+    }
+    if last_of(phase) != 15 {
+        return start;
     }
     if clocked(samples, from + 16) {
         return Piece {
@@ -133,13 +138,13 @@ fn past_bits(session: Session, samples: &[u8], from: usize) -> Piece
 }
 
 // Samples with CSB low, until the piece ends.
-fn low(session: Session, samples: &[u8], from: usize) -> Piece
-    requires { ⌜ (session .csb ≡ false) × (soundSession session ≡ true) × (from ≤ length (now samples)) ⌝ }
-    ensures { λ r. ⌜ Reached (now (samples .entry)) session from r ⌝ }
+fn low(chip: Chip, session: Session, samples: &[u8], from: usize) -> Piece
+    requires { ⌜ (session .csb ≡ false) × (soundSession chip session ≡ true) × (from ≤ length (now samples)) ⌝ }
+    ensures { λ r. ⌜ Reached chip (now (samples .entry)) session from r ⌝ }
 {
-    let mut p = past_bits(session, samples, from);
+    let mut p = past_bits(chip, session, samples, from);
     while p.at < samples.len() {
-        let next = past_low(session, samples, p);
+        let next = past_low(chip, session, samples, p);
         if next.at == p.at {
             return next;
         }
@@ -149,9 +154,9 @@ fn low(session: Session, samples: &[u8], from: usize) -> Piece
 }
 
 // Samples with CSB high, until it falls.
-fn high(session: Session, samples: &[u8], from: usize) -> Piece
-    requires { ⌜ (session .csb ≡ true) × (soundSession session ≡ true) × (from ≤ length (now samples)) ⌝ }
-    ensures { λ r. ⌜ Reached (now (samples .entry)) session from r ⌝ }
+fn high(chip: Chip, session: Session, samples: &[u8], from: usize) -> Piece
+    requires { ⌜ (session .csb ≡ true) × (soundSession chip session ≡ true) × (from ≤ length (now samples)) ⌝ }
+    ensures { λ r. ⌜ Reached chip (now (samples .entry)) session from r ⌝ }
 {
     let mut level = level_of(session.sclk);
     let mut at = from;
@@ -172,12 +177,12 @@ fn high(session: Session, samples: &[u8], from: usize) -> Piece
 }
 
 // Samples that give no event, from a place on.
-pub fn quiet(session: Session, samples: &[u8], from: usize) -> Piece
-    requires { ⌜ (soundSession session ≡ true) × (from ≤ length (now samples)) ⌝ }
-    ensures { λ r. ⌜ Reached (now (samples .entry)) session from r ⌝ }
+pub fn quiet(chip: Chip, session: Session, samples: &[u8], from: usize) -> Piece
+    requires { ⌜ (soundSession chip session ≡ true) × (from ≤ length (now samples)) ⌝ }
+    ensures { λ r. ⌜ Reached chip (now (samples .entry)) session from r ⌝ }
 {
     if session.csb {
-        return high(session, samples, from);
+        return high(chip, session, samples, from);
     }
-    low(session, samples, from)
+    low(chip, session, samples, from)
 }

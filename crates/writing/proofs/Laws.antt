@@ -1,61 +1,42 @@
--- Laws of a write: what the code looked at decides the effect, an effect on a byte is within the banks, and a write keeps their sizes.
+-- Laws of a write: an effect on a byte is within the banks, and a write keeps their sizes.
 use mathlib.Core.Path.{_≡_, refl, sym, _∙_, ap}
 use mathlib.Core.Bool.{Bool, true, false, cond, _&&_, xor, false≢true}
 use mathlib.Core.List.{List}
 use Prim.Native.Nat.{ℕ, _<_}
 use native.Mathlib.Omega.{arith}
-use borrow.Author.Tests.{eqb-true, eq-eqb, ne-eqb}
+use borrow.Author.Tests.{eqb-true}
 use lib.ListN.{length, getD, length-set}
 use lib.Seq.{getD-set-same}
 use lib.Bits.{bitXor}
 use lib.Dec.{eqb}
 use Rattle.bits.specs.Bits.{bitAt, merged}
-use Rattle.bits.proofs.Cases.{yes, no, each, and-left, and-right}
+use Rattle.bits.proofs.Cases.{each}
 use Rattle.bits.proofs.Laws.{merged-bit, xor-bit}
 use Rattle.regmap.specs.declared.Entry.{Entry}
 use Rattle.regmap.specs.Format.{registerAt, plain, buffered, control}
 use Rattle.card.specs.Card.{isMirror}
+use Rattle.chip.specs.declared.Chip.{Chip}
+use Rattle.chip.specs.Chip.{isNewer}
 use Rattle.settings.specs.declared.Settings.{Settings}
-use Rattle.settings.specs.Settings.{resets}
+use Rattle.settings.specs.Settings.{resets, transfersAt}
 use Rattle.registers.specs.Banks.{Banks, Mapped}
 use Rattle.registers.proofs.Laws.{mapped-defaults, mapped-transfer, in-banks}
 use Rattle.writing.specs.declared.Stages.{Stages}
 use Rattle.writing.specs.declared.Effect.{Effect}
 use Rattle.writing.specs.declared.Effect.the-variants.{Nothing, Active, Buffer, Control, Transfer, Reset, Ignored}
-use Rattle.writing.specs.Effect.{configurationEffect, controlEffect, movedBits, effectOf}
+use Rattle.writing.specs.Effect.{controlEffect, movedBits, effectOf}
 use Rattle.writing.specs.Write.{effectAt, applied, onByte, writeBanks, writtenBy, writtenOf}
 
--- ---- the effect on a control register, by what the code looked at
+-- ---- no effect on a control register is on a byte
 
-module _ (a v : ℕ) where
-  pub configures-at : {e : Effect} → e ≡ configurationEffect v → a ≡ 0x0000 → e ≡ controlEffect a v
-  unfolding controlEffect
-  configures-at e at = yes _ (eq-eqb a 0x0000 at) e
-
-  pub transfers-at : {asks : Bool} → asks ≡ bitAt v 0 → (eqb a 0x000F && asks) ≡ true → Transfer ≡ controlEffect a v
-  unfolding controlEffect
-  transfers-at {asks} e t =
-      let at : a ≡ 0x000F = eqb-true a 0x000F (and-left _ asks t) in
-      let yes : bitAt v 0 ≡ true = sym e ∙ and-right (eqb a 0x000F) asks t in
-      rw (at, yes)
-
-  pub neither-at : {asks : Bool} → (a ≡ 0x0000 → ⊥) → asks ≡ bitAt v 0 → (eqb a 0x000F && asks) ≡ false → Control ≡ controlEffect a v
-  unfolding controlEffect
-  neither-at n e f = no _ (ne-eqb a 0x0000 n) (neither (eqb a 0x000F) (bitAt v 0) (rw e at f))
-    where
-      neither : (z w : Bool) → (z && w) ≡ false → Control ≡ cond z (cond w Transfer Control) Control
-      neither true w q = rw q
-      neither false w q = refl
-
-  -- no effect on a control register is on a byte
-  pub control-apart : onByte (controlEffect a v) ≡ false
-  unfolding controlEffect
-  control-apart =
-      each Apart (eqb a 0x0000) (λ e. each Apart (isMirror v) (λ e. each Apart (resets v) (λ e. refl) (λ e. refl)) (λ e. refl))
-      (λ e. each Apart (eqb a 0x000F) (λ e. each Apart (bitAt v 0) (λ e. refl) (λ e. refl)) (λ e. refl))
-    where
-      Apart : Effect → Type 0
-      Apart e = onByte e ≡ false
+pub control-apart : (c : Chip) (a v : ℕ) → onByte (controlEffect c a v) ≡ false
+unfolding controlEffect
+control-apart c a v =
+    each Apart (isNewer c && eqb a 0x0000) (λ e. each Apart (isMirror v) (λ e. each Apart (resets v) (λ e. refl) (λ e. refl)) (λ e. refl))
+    (λ e. each Apart (transfersAt c a v) (λ e. refl) (λ e. refl))
+  where
+    Apart : Effect → Type 0
+    Apart e = onByte e ≡ false
 
 -- ---- the bits that moved
 
@@ -73,13 +54,13 @@ moved-bit old v mask i h =
 -- ---- an effect on the banks
 
 -- an effect on a byte is within the banks
-pub effect-within : {m : List ℕ} {b : Banks} → Mapped m b → (s : Stages) (a v : ℕ) → onByte (effectOf (registerAt m a) s a v) ≡ true
-    → a < length (b .active)
+pub effect-within : (c : Chip) {m : List ℕ} {b : Banks} → Mapped m b → (s : Stages) (a v : ℕ)
+    → onByte (effectOf c (registerAt m a) s a v) ≡ true → a < length (b .active)
 unfolding effectOf
-effect-within {m} {b} h s a v =
+effect-within c {m} {b} h s a v =
     each Inside (eqb (registerAt m a .kind) plain) (λ k t. in-banks h (eqb-true _ _ k) (λ z. omega arith) .0)
     (λ _. each Inside (eqb (registerAt m a .kind) buffered) (λ k t. in-banks h (eqb-true _ _ k) (λ z. omega arith) .0)
-    (λ _. each Inside (eqb (registerAt m a .kind) control) (λ k t. absurd (false≢true (sym (control-apart a v) ∙ t)))
+    (λ _. each Inside (eqb (registerAt m a .kind) control) (λ k t. absurd (false≢true (sym (control-apart c a v) ∙ t)))
     (λ _ t. absurd (false≢true t))))
   where
     Inside : Effect → Type 0
@@ -87,17 +68,17 @@ effect-within {m} {b} h s a v =
 
 module _ {m : List ℕ} {b : Banks} (h : Mapped m b) where
   -- What a write answers as moved is the difference of the register's byte before and after it, in the stage that it is written to.
-  pub moved-active : (t : Settings) (a v : ℕ) → registerAt m a .kind ≡ plain
-      → writtenOf m b t a v .moved ≡ bitXor (getD (b .active) a 0) (getD (writeBanks m b a v .active) a 0)
+  pub moved-active : (c : Chip) (t : Settings) (a v : ℕ) → registerAt m a .kind ≡ plain
+      → writtenOf c m b t a v .moved ≡ bitXor (getD (b .active) a 0) (getD (writeBanks c m b a v .active) a 0)
   unfolding effectOf applied writeBanks writtenBy
-  moved-active t a v k =
+  moved-active c t a v k =
       let inside : a < length (b .active) = in-banks h k (λ z. omega arith) .0 in
       rw k (ap (bitXor (getD (b .active) a 0)) (sym (getD-set-same (b .active) a _ 0 inside)))
 
-  pub moved-buffer : (t : Settings) (a v : ℕ) → registerAt m a .kind ≡ buffered
-      → writtenOf m b t a v .moved ≡ bitXor (getD (b .buffer) a 0) (getD (writeBanks m b a v .buffer) a 0)
+  pub moved-buffer : (c : Chip) (t : Settings) (a v : ℕ) → registerAt m a .kind ≡ buffered
+      → writtenOf c m b t a v .moved ≡ bitXor (getD (b .buffer) a 0) (getD (writeBanks c m b a v .buffer) a 0)
   unfolding effectOf applied writeBanks writtenBy
-  moved-buffer t a v k =
+  moved-buffer c t a v k =
       let inside : a < length (b .buffer) = in-banks h k (λ z. omega arith) .1 in
       rw k (ap (bitXor (getD (b .buffer) a 0)) (sym (getD-set-same (b .buffer) a _ 0 inside)))
 
@@ -111,6 +92,6 @@ module _ {m : List ℕ} {b : Banks} (h : Mapped m b) where
   mapped-applied a Reset = mapped-defaults m
   mapped-applied a Ignored = h
 
-  pub mapped-write : (a v : ℕ) → Mapped m (writeBanks m b a v)
+  pub mapped-write : (c : Chip) (a v : ℕ) → Mapped m (writeBanks c m b a v)
   unfolding writeBanks
-  mapped-write a v = mapped-applied a (effectAt m b a v)
+  mapped-write c a v = mapped-applied a (effectAt c m b a v)

@@ -1,26 +1,28 @@
 -- Document 01, "What a whole byte does": the effect of a write of v.
 use Prim.Native.Nat.{ℕ}
-use mathlib.Core.Bool.{cond}
+use mathlib.Core.Bool.{cond, _&&_}
 use lib.Bits.{bitXor}
 use lib.Dec.{eqb}
-use Rattle.bits.specs.Bits.{bitAt, merged}
+use Rattle.bits.specs.Bits.{merged}
 use Rattle.regmap.specs.declared.Entry.{Entry}
 use Rattle.regmap.specs.Format.{plain, buffered, control}
 use Rattle.card.specs.Card.{isMirror}
-use Rattle.settings.specs.Settings.{resets}
+use Rattle.chip.specs.declared.Chip.{Chip}
+use Rattle.chip.specs.Chip.{isNewer}
+use Rattle.settings.specs.Settings.{resets, transfersAt}
 use Rattle.writing.specs.declared.Stages.{Stages}
 use Rattle.writing.specs.declared.Effect.{Effect}
 use Rattle.writing.specs.declared.Effect.the-variants.{Nothing, Active, Buffer, Control, Transfer, Reset, Ignored}
 
--- 0x0000: a soft reset if the byte asks for it. Document 02, Ask 2: a byte that is not its own mirror is ignored.
+-- 0x0000 of a newer chip: a soft reset if the byte asks for it. Document 02, Ask 2: a byte that is not its own mirror is ignored.
 abbrev pub configurationEffect : ℕ → Effect
 configurationEffect v = cond (isMirror v) (cond (resets v) Reset Control) Ignored
 
--- a control register: at 0x0000 as above, at 0x000F a transfer if bit 0 is set
-unfoldable pub controlEffect : ℕ → ℕ → Effect
-controlEffect a v =
-    cond (eqb a 0x0000) (configurationEffect v)
-    (cond (eqb a 0x000F) (cond (bitAt v 0) Transfer Control)
+-- a control register: 0x0000 of a newer chip as above; else a transfer if the byte asks for it
+unfoldable pub controlEffect : Chip → ℕ → ℕ → Effect
+controlEffect c a v =
+    cond (isNewer c && eqb a 0x0000) (configurationEffect v)
+    (cond (transfersAt c a v) Transfer
     Control)
 
 -- Document 02, Ask 8: of a byte that takes v where the mask has ones, the bits that differ from the old one
@@ -29,9 +31,9 @@ movedBits old v mask = bitXor old (merged 8 old v mask)
 
 -- By the register's entry and its bytes of both stages: kind 2 takes v into the active byte where the mask has ones, kind 3 into the
 -- buffer byte. A blank or read-only register takes nothing, and beyond the map a register is blank.
-unfoldable pub effectOf : Entry → Stages → ℕ → ℕ → Effect
-effectOf e s a v =
+unfoldable pub effectOf : Chip → Entry → Stages → ℕ → ℕ → Effect
+effectOf c e s a v =
     cond (eqb (e .kind) plain) (Active (merged 8 (s .active) v (e .mask)) (movedBits (s .active) v (e .mask)))
     (cond (eqb (e .kind) buffered) (Buffer (merged 8 (s .buffer) v (e .mask)) (movedBits (s .buffer) v (e .mask)))
-    (cond (eqb (e .kind) control) (controlEffect a v)
+    (cond (eqb (e .kind) control) (controlEffect c a v)
     Nothing))

@@ -5,6 +5,7 @@ use mathlib.Core.Bool.{Bool, true, false}
 use mathlib.Core.List.{List}
 use lib.ListN.{getD, set}
 use Rattle.regmap.specs.Format.{registerAt}
+use Rattle.chip.specs.declared.Chip.{Chip}
 use Rattle.settings.specs.declared.Settings.{Settings}
 use Rattle.settings.specs.Settings.{settingsAfter, controlReading}
 use Rattle.registers.specs.Banks.{Banks, banks, defaultBanks, transferred}
@@ -19,8 +20,8 @@ abbrev pub stagesAt : Banks → ℕ → Stages
 stagesAt b a = record { active = getD (b .active) a 0; buffer = getD (b .buffer) a 0 }
 
 -- the effect of a write of v to the register at an address
-abbrev pub effectAt : List ℕ → Banks → ℕ → ℕ → Effect
-effectAt m b a v = effectOf (registerAt m a) (stagesAt b a) a v
+abbrev pub effectAt : Chip → List ℕ → Banks → ℕ → ℕ → Effect
+effectAt c m b a v = effectOf c (registerAt m a) (stagesAt b a) a v
 
 -- an effect applied to the banks
 unfoldable pub applied : List ℕ → Banks → ℕ → Effect → Banks
@@ -33,35 +34,35 @@ applied m b a Reset = defaultBanks m
 applied m b a Ignored = b
 
 -- the banks after a write
-unfoldable pub writeBanks : List ℕ → Banks → ℕ → ℕ → Banks
-writeBanks m b a v = applied m b a (effectAt m b a v)
+unfoldable pub writeBanks : Chip → List ℕ → Banks → ℕ → ℕ → Banks
+writeBanks c m b a v = applied m b a (effectAt c m b a v)
 
 abbrev pub written : ℕ → ℕ → ℕ → Written
 written byte effect moved = record { byte = byte; effect = effect; moved = moved }
 
 -- a control register answers its reading afterwards
-abbrev pub controlWritten : Settings → ℕ → ℕ → ℕ → Written
-controlWritten t a v effect = written (controlReading (settingsAfter t a v) a) effect 0
+abbrev pub controlWritten : Chip → Settings → ℕ → ℕ → ℕ → Written
+controlWritten c t a v effect = written (controlReading c (settingsAfter c t a v) a) effect 0
 
 -- What a write answers: the byte of the stage written, or the control reading, afterwards, and the number of its effect; 0 with
 -- effect 0. Document 02, Ask 2: a byte that is ignored has effect 0 too, with the unchanged reading. Ask 8: with effects 1 and 2 also the
 -- bits that moved, 0 otherwise.
-unfoldable pub writtenBy : Settings → ℕ → ℕ → Effect → Written
-writtenBy t a v Nothing = written 0 0 0
-writtenBy t a v (Active byte moved) = written byte 1 moved
-writtenBy t a v (Buffer byte moved) = written byte 2 moved
-writtenBy t a v Control = controlWritten t a v 3
-writtenBy t a v Transfer = controlWritten t a v 4
-writtenBy t a v Reset = controlWritten t a v 5
-writtenBy t a v Ignored = written (controlReading t a) 0 0
+unfoldable pub writtenBy : Chip → Settings → ℕ → ℕ → Effect → Written
+writtenBy c t a v Nothing = written 0 0 0
+writtenBy c t a v (Active byte moved) = written byte 1 moved
+writtenBy c t a v (Buffer byte moved) = written byte 2 moved
+writtenBy c t a v Control = controlWritten c t a v 3
+writtenBy c t a v Transfer = controlWritten c t a v 4
+writtenBy c t a v Reset = controlWritten c t a v 5
+writtenBy c t a v Ignored = written (controlReading c t a) 0 0
 
-abbrev pub writtenOf : List ℕ → Banks → Settings → ℕ → ℕ → Written
-writtenOf m b t a v = writtenBy t a v (effectAt m b a v)
+abbrev pub writtenOf : Chip → List ℕ → Banks → Settings → ℕ → ℕ → Written
+writtenOf c m b t a v = writtenBy c t a v (effectAt c m b a v)
 
 -- what the code's write gives: its answer, and both banks
-pub record Wrote (m : List ℕ) (before : Banks) (t : Settings) (a v : ℕ) (answer : Written) (after : Banks) : Type 0 where
-  pub answer-is : answer ≡ writtenOf m before t a v
-  pub banks-after : after ≡ writeBanks m before a v
+pub record Wrote (c : Chip) (m : List ℕ) (before : Banks) (t : Settings) (a v : ℕ) (answer : Written) (after : Banks) : Type 0 where
+  pub answer-is : answer ≡ writtenOf c m before t a v
+  pub banks-after : after ≡ writeBanks c m before a v
 
 -- the effect is on the byte of one register
 abbrev pub onByte : Effect → Bool

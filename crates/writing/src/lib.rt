@@ -8,6 +8,7 @@ ghost use Rattle.writing.specs.Write.{stagesAt, applied, onByte, written
 
 mod rule;
 
+use chip::Chip;
 use registers::reset;
 use registers::transfer;
 use regmap::entry_at;
@@ -73,12 +74,12 @@ fn untaken(byte: u8) -> Written
 }
 
 // What a write of v to a control register answers: its reading afterwards, and the number of the effect.
-fn control_answer(settings: Settings, address: u16, v: u8, effect: u8) -> Written
-    ensures { λ r. ⌜ r ≡ controlWritten settings address v effect ⌝ }
+fn control_answer(chip: Chip, settings: Settings, address: u16, v: u8, effect: u8) -> Written
+    ensures { λ r. ⌜ r ≡ controlWritten chip settings address v effect ⌝ }
 {
-    let after = settings.after(address, v);
+    let after = settings.after(chip, address, v);
     Written {
-        byte: after.reading(address),
+        byte: after.reading(chip, address),
         effect: effect,
         moved: 0,
     }
@@ -86,6 +87,7 @@ fn control_answer(settings: Settings, address: u16, v: u8, effect: u8) -> Writte
 
 // Does to the banks what a write of v does, and answers by its effect and the settings before it.
 fn apply(
+    chip: Chip,
     map: &[u8],
     active: &mut [u8],
     buffer: &mut [u8],
@@ -95,7 +97,7 @@ fn apply(
     effect: Effect,
 ) -> Written
     requires { ⌜ (Mapped (now map) (banks (now active) (now buffer))) × (onByte effect ≡ true → address < length (now active)) ⌝ }
-    ensures answer { λ r. ⌜ r ≡ writtenBy settings address v effect ⌝ }
+    ensures answer { λ r. ⌜ r ≡ writtenBy chip settings address v effect ⌝ }
     ensures banks_after { λ r. ⌜ banks (now (active .exit)) (now (buffer .exit)) ≡ applied (now (map .entry)) (banks (now (active .entry)) (now (buffer .entry))) address effect ⌝ }
 {
     let at = address as usize;
@@ -117,21 +119,22 @@ fn apply(
                 moved: moved,
             }
         }
-        Effect::Control => control_answer(settings, address, v, 3),
+        Effect::Control => control_answer(chip, settings, address, v, 3),
         Effect::Transfer => {
             transfer(map, active, buffer);
-            control_answer(settings, address, v, 4)
+            control_answer(chip, settings, address, v, 4)
         }
         Effect::Reset => {
             reset(map, active, buffer);
-            control_answer(settings, address, v, 5)
+            control_answer(chip, settings, address, v, 5)
         }
-        Effect::Ignored => untaken(settings.reading(address)),
+        Effect::Ignored => untaken(settings.reading(chip, address)),
     }
 }
 
 // Writes v to the register at an address. The settings are those before the write.
 pub fn write(
+    chip: Chip,
     map: &[u8],
     active: &mut [u8],
     buffer: &mut [u8],
@@ -140,11 +143,11 @@ pub fn write(
     v: u8,
 ) -> Written
     requires { ⌜ Mapped (now map) (banks (now active) (now buffer)) ⌝ }
-    ensures { λ r. ⌜ Wrote (now (map .entry)) (banks (now (active .entry)) (now (buffer .entry))) settings address v r (banks (now (active .exit)) (now (buffer .exit))) ⌝ }
+    ensures { λ r. ⌜ Wrote chip (now (map .entry)) (banks (now (active .entry)) (now (buffer .entry))) settings address v r (banks (now (active .exit)) (now (buffer .exit))) ⌝ }
 {
     let at = address as usize;
     let register = entry_at(map, active.len(), at);
     let stages = stages_at(active, buffer, at);
-    let effect = effect_of(register, stages, address, v);
-    apply(map, active, buffer, settings, address, v, effect)
+    let effect = effect_of(chip, register, stages, address, v);
+    apply(chip, map, active, buffer, settings, address, v, effect)
 }

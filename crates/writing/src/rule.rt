@@ -3,16 +3,18 @@ ghost use mathlib.Core.Path.{_≡_};
 ghost use Rattle.writing.specs.Effect.{configurationEffect, controlEffect, effectOf};
 use crate::Effect;
 use crate::Stages;
-use bits::bit_at;
 use bits::merge;
 use card::is_mirror;
+use chip::Chip;
+use chip::is_newer;
 use regmap::BUFFERED;
 use regmap::CONTROL;
 use regmap::Entry;
 use regmap::PLAIN;
 use settings::asks_reset;
+use settings::transfers_at;
 
-// What a write of v to 0x0000 does.
+// What a write of v to 0x0000 of a newer chip does.
 fn configuration_effect(v: u8) -> Effect
     ensures { λ r. ⌜ r ≡ configurationEffect v ⌝ }
 {
@@ -26,21 +28,21 @@ fn configuration_effect(v: u8) -> Effect
 }
 
 // What a write of v to a control register does.
-fn control_effect(address: u16, v: u8) -> Effect
-    ensures { λ r. ⌜ r ≡ controlEffect address v ⌝ }
+fn control_effect(chip: Chip, address: u16, v: u8) -> Effect
+    ensures { λ r. ⌜ r ≡ controlEffect chip address v ⌝ }
 {
-    if address == 0x0000 {
+    if is_newer(chip) & (address == 0x0000) {
         return configuration_effect(v);
     }
-    if (address == 0x000F) & bit_at(v, 0) {
+    if transfers_at(chip, address, v) {
         return Effect::Transfer;
     }
     Effect::Control
 }
 
 // What a write of v to a register does, by its entry and its bytes of both stages.
-pub fn effect_of(register: Entry, stages: Stages, address: u16, v: u8) -> Effect
-    ensures { λ r. ⌜ r ≡ effectOf register stages address v ⌝ }
+pub fn effect_of(chip: Chip, register: Entry, stages: Stages, address: u16, v: u8) -> Effect
+    ensures { λ r. ⌜ r ≡ effectOf chip register stages address v ⌝ }
 {
     if register.kind == PLAIN {
         let byte = merge(stages.active, v, register.mask);
@@ -57,7 +59,7 @@ pub fn effect_of(register: Entry, stages: Stages, address: u16, v: u8) -> Effect
         };
     }
     if register.kind == CONTROL {
-        return control_effect(address, v);
+        return control_effect(chip, address, v);
     }
     Effect::Nothing
 }

@@ -1,29 +1,36 @@
 //! What the reader's calls are given: lists of calls from a seed, and all that
 //! can be wrong with one of them.
 
-use super::maps::{self, good_map, Damage};
+use super::maps::{self, count_of, good_map, set_entry, Damage};
+use super::older::maps::{good_older_map, Flaw};
+use super::older::sessions::sound_older_session;
+use super::older::traces::older_trace;
+use super::older::{another_top, any_older, PARTS};
 use super::random::Random;
 use super::sessions::sound_session;
 use super::traces::{clocks, noise, trace};
 use crate::calls::{Call, Given};
-use crate::layout::{from_bytes, to_bytes, SESSION_SIZE};
+use crate::layout::{to_bytes, SESSION_SIZE};
+use crate::second::older::Older;
 use crate::second::reader::RECORD;
 
 /// The most samples that a call takes.
 pub const MOST_SAMPLES: usize = 65_536;
 
-/// What can be wrong with a call, a reason for each number from 1 on.
+/// What can be wrong with a call, a reason for each number.
 #[derive(Clone, Copy, Debug, PartialEq, Eq)]
 pub enum Wrong {
     Session,
     MapForm,
     MapEntry,
     Banks,
+    Top,
     Samples,
     Room,
 }
 
 impl Wrong {
+    /// Those of a newer chip's calls, by their numbers.
     pub const ALL: [Wrong; 6] = [
         Wrong::Session,
         Wrong::MapForm,
@@ -33,8 +40,28 @@ impl Wrong {
         Wrong::Room,
     ];
 
+    /// Those of an older chip's, in the order in which they are looked for: 12 comes
+    /// after 4.
+    pub const OLDER: [Wrong; 7] = [
+        Wrong::Session,
+        Wrong::MapForm,
+        Wrong::MapEntry,
+        Wrong::Banks,
+        Wrong::Top,
+        Wrong::Samples,
+        Wrong::Room,
+    ];
+
     pub fn number(self) -> u32 {
-        self as u32 + 1
+        match self {
+            Wrong::Session => 1,
+            Wrong::MapForm => 2,
+            Wrong::MapEntry => 3,
+            Wrong::Banks => 4,
+            Wrong::Top => 12,
+            Wrong::Samples => 5,
+            Wrong::Room => 6,
+        }
     }
 
     /// Spoils calls that nothing refused so far, whatever else is spoilt after.
@@ -42,8 +69,9 @@ impl Wrong {
         match self {
             Wrong::Session => spoil_session(random, given),
             Wrong::MapForm => damage(random, 2).apply(random, &mut given.map),
-            Wrong::MapEntry => damage(random, 3).apply(random, &mut given.map),
+            Wrong::MapEntry => spoil_entry(random, given),
             Wrong::Banks => spoil_banks(random, given),
+            Wrong::Top => spoil_top(random, given),
             Wrong::Samples => spoil_samples(random, &mut given.samples),
             Wrong::Room => unreachable!("the room depends on the call"),
         }
@@ -58,7 +86,7 @@ pub fn spoil(random: &mut Random, call: Call, given: &mut Given, wrongs: &[Wrong
         let short = room_too_short(random, given.records_due(call));
         given.records = random.bytes(short);
     }
-    for wrong in Wrong::ALL.into_iter().rev().filter(|&wrong| wrong != Wrong::Room) {
+    for wrong in Wrong::OLDER.into_iter().rev().filter(|&wrong| wrong != Wrong::Room) {
         if wrongs.contains(&wrong) {
             wrong.apply(random, given);
         }
@@ -79,7 +107,7 @@ fn room_too_short(random: &mut Random, records: usize) -> usize {
 /// Changes bytes of a sound session until they are no sound session.
 fn spoil_session(random: &mut Random, given: &mut Given) {
     let sound = given.session;
-    while from_bytes(&given.session).is_some_and(|session| session.is_sound()) {
+    while given.is_sound() {
         given.session = sound;
         for _ in 0..random.between(1, 2) {
             let at = random.below(SESSION_SIZE);
@@ -92,6 +120,22 @@ fn damage(random: &mut Random, number: u8) -> Damage {
     let fitting: Vec<Damage> =
         Damage::ALL.into_iter().filter(|damage| damage.number() == number).collect();
     random.pick(&fitting)
+}
+
+fn spoil_entry(random: &mut Random, given: &mut Given) {
+    let Some(older) = given.older else {
+        return damage(random, 3).apply(random, &mut given.map);
+    };
+    let flaw = random.pick(&Flaw::ALL);
+    let (address, entry) = flaw.broken_entry(random, older.part, count_of(&given.map));
+    set_entry(&mut given.map, address, entry);
+}
+
+/// Names another top than the map has; a newer chip's calls name none.
+fn spoil_top(random: &mut Random, given: &mut Given) {
+    let last = count_of(&given.map) as u64 - 1;
+    let other = another_top(random, last);
+    given.older = given.older.map(|older| Older { top: other, ..older });
 }
 
 /// Gives one bank or both another length.
@@ -120,9 +164,12 @@ fn spoil_samples(random: &mut Random, samples: &mut Vec<u8>) {
 }
 
 /// A list of calls on one map: each gets the session and the banks as the last
-/// one left them, and the samples that are next.
+/// one left them, and the samples that are next. Or on several maps of as many
+/// registers, for chips between which the session is handed on.
 pub struct Chain {
     random: Random,
+    /// The chips, and the map of each.
+    chips: Vec<(Option<Older>, Vec<u8>)>,
     /// Session and banks as they now are.
     pub given: Given,
     trace: Vec<u8>,
@@ -136,21 +183,51 @@ impl Chain {
         let mut random = Random::new(seed);
         let count = maps::count(&mut random);
         let map = good_map(&mut random, count);
+        Chain::of(random, vec![(None, map)])
+    }
+
+    /// The same for an older chip.
+    pub fn older(seed: u64) -> Self {
+        let mut random = Random::new(seed);
+        let older = any_older(&mut random);
+        let map = good_older_map(&mut random, older);
+        Chain::of(random, vec![(Some(older), map)])
+    }
+
+    /// One session for a newer chip and both older ones.
+    pub fn handed_on(seed: u64) -> Self {
+        let mut random = Random::new(seed);
+        let top = any_older(&mut random).top.min(0x0200);
+        let mut chips = vec![(None, good_map(&mut random, top as usize + 1))];
+        for part in PARTS {
+            let older = Older { part, top };
+            chips.push((Some(older), good_older_map(&mut random, older)));
+        }
+        Chain::of(random, chips)
+    }
+
+    fn of(mut random: Random, chips: Vec<(Option<Older>, Vec<u8>)>) -> Self {
         let length = match random.below(400) {
             0 => MOST_SAMPLES,
             1 => MOST_SAMPLES + 1,
             2..=9 => random.between(2_000, 9_000),
             _ => random.between(50, 1_200),
         };
-        let trace = any_trace(&mut random, &map, length);
+        let (older, map) = &chips[random.below(chips.len())];
+        let trace = any_trace(&mut random, *older, map, length);
         let longest = if length < 2_000 { random.pick(&[2, 40, 400]) } else { length };
-        let mut given = Given::opened(&map);
+        let mut given = Given::opened_by(*older, map);
         if random.coin() {
-            given.session = to_bytes(&sound_session(&mut random));
+            let count = count_of(map);
+            let session = match older {
+                None => sound_session(&mut random),
+                Some(older) => sound_older_session(&mut random, older.top),
+            };
+            given.session = to_bytes(&session);
             given.active = random.bytes(count);
             given.buffer = random.bytes(count);
         }
-        Chain { random, given, trace, at: 0, longest }
+        Chain { random, chips, given, trace, at: 0, longest }
     }
 
     /// The next call with its samples and room, spoilt or not.
@@ -165,6 +242,11 @@ impl Chain {
         let whole = self.longest > MOST_SAMPLES / 2 && random.coin();
         let length = if whole { rest.len() } else { random.between(0, self.longest) };
         let mut given = self.given.clone();
+        if self.chips.len() > 1 && random.one_in(4) {
+            let (older, map) = &self.chips[random.below(self.chips.len())];
+            given.older = *older;
+            given.map.clone_from(map);
+        }
         given.samples = rest[..length.min(rest.len())].to_vec();
         let due = given.records_due(call);
         let extra = random.pick(&[0, 0, 0, 1, 6, 7, 8, 100]);
@@ -175,6 +257,7 @@ impl Chain {
         let possible = |wrong: &Wrong| match wrong {
             Wrong::Session => call != Call::Open,
             Wrong::Room => due > 0,
+            Wrong::Top => given.older.is_some(),
             _ => true,
         };
         let wrongs: Vec<Wrong> = any_wrongs(random).into_iter().filter(possible).collect();
@@ -193,16 +276,17 @@ impl Chain {
 }
 
 /// What a master sends, or a frame that goes on and on, or no sense at all.
-fn any_trace(random: &mut Random, map: &[u8], length: usize) -> Vec<u8> {
-    match random.below(8) {
-        0 => noise(random, length),
-        1 | 2 => clocks(random, length),
-        _ => trace(random, map, length, true),
+fn any_trace(random: &mut Random, older: Option<Older>, map: &[u8], length: usize) -> Vec<u8> {
+    match (random.below(8), older) {
+        (0, _) => noise(random, length),
+        (1 | 2, _) => clocks(random, length),
+        (_, None) => trace(random, map, length, true),
+        (_, Some(older)) => older_trace(random, older, length),
     }
 }
 
 /// Mostly nothing, else one to three of them.
 fn any_wrongs(random: &mut Random) -> Vec<Wrong> {
     let many = random.pick(&[0, 0, 0, 0, 0, 0, 1, 1, 2, 3]);
-    (0..many).map(|_| random.pick(&Wrong::ALL)).collect()
+    (0..many).map(|_| random.pick(&Wrong::OLDER)).collect()
 }

@@ -26,7 +26,7 @@ pub fn sound_session(random: &mut Random) -> Session {
         bits,
         value: random.below(1 << bits) as u16,
         settings,
-        in_use: any_of(random, &USABLE),
+        in_use: any_usable(random),
         ..Session::opened()
     };
     if phase == Phase::Data {
@@ -36,8 +36,13 @@ pub fn sound_session(random: &mut Random) -> Session {
     session
 }
 
-fn any_settings(random: &mut Random) -> Settings {
+pub fn any_settings(random: &mut Random) -> Settings {
     any_of(random, &USABLE).with(any_of(random, &OTHERS))
+}
+
+/// Settings in use.
+pub fn any_usable(random: &mut Random) -> Settings {
+    any_of(random, &USABLE)
 }
 
 fn any_of(random: &mut Random, settings: &[Settings]) -> Settings {
@@ -73,6 +78,11 @@ pub fn with_every_setting(piece: Session) -> impl Iterator<Item = Session> {
     })
 }
 
+/// All sets of settings.
+pub fn every_setting() -> impl Iterator<Item = Settings> {
+    (0..1 << (USABLE.len() + OTHERS.len())).map(numbered)
+}
+
 /// The settings whose bits a number has, the usable ones lowest.
 fn numbered(number: usize) -> Settings {
     let set = USABLE.into_iter().chain(OTHERS).enumerate().filter(|(i, _)| number >> i & 1 == 1);
@@ -102,6 +112,10 @@ pub fn unsound_sessions() -> Vec<Session> {
         Session { address: 0x8000, ..data },
         Session { address: 0xFFFF, ..data },
     ];
+    // An older chip's: bytes left, waiting in data, and passing over as above.
+    unsound.extend((1..=255).flat_map(|left| {
+        [rest, instruction, data, Session { levels: CSB, ..data }].map(|s| Session { left, ..s })
+    }));
     unsound.extend(USABLE.map(|in_use| Session { in_use, ..rest }));
     unsound.extend((16..=255).map(|bits| Session { bits, ..instruction }));
     unsound.extend((8..=255).map(|bits| Session { bits, ..data }));

@@ -10,10 +10,20 @@ const SDO: u8 = 1 << 3;
 
 /// How often each sample is recorded.
 #[derive(Clone, Copy)]
-enum Sampling {
+pub enum Sampling {
     Once,
     Times(usize),
     Uneven,
+}
+
+impl Sampling {
+    pub fn any(random: &mut Random) -> Self {
+        match random.below(12) {
+            0 => Sampling::Times(random.between(2, 10)),
+            1 => Sampling::Uneven,
+            _ => Sampling::Once,
+        }
+    }
 }
 
 /// What the master believes to be set. It may be wrong after a glitch; the
@@ -40,11 +50,7 @@ pub struct Master<'a> {
 
 /// A trace of about so many samples, or exactly so many.
 pub fn trace(random: &mut Random, map: &[u8], length: usize, exactly: bool) -> Vec<u8> {
-    let sampling = match random.below(12) {
-        0 => Sampling::Times(random.between(2, 10)),
-        1 => Sampling::Uneven,
-        _ => Sampling::Once,
-    };
+    let sampling = Sampling::any(random);
     let mut master = Master {
         random,
         map,
@@ -269,16 +275,7 @@ impl Master<'_> {
     fn glitched_frame(&mut self) {
         let start = self.samples.len();
         self.frame();
-        let at = self.random.between(start, self.samples.len() - 1);
-        let sample = self.samples[at];
-        match self.random.below(6) {
-            0 => drop(self.samples.splice(at..at, [sample & !SCLK, sample | SCLK])),
-            1 => self.samples.insert(at, sample ^ CSB),
-            2 => self.samples[at] = sample ^ (CSB | SCLK),
-            3 => drop(self.samples.remove(at)),
-            4 => self.samples.insert(at, sample ^ SCLK),
-            _ => self.samples[at] = self.random.byte() & 0x0F,
-        }
+        any_glitch(self.random, &mut self.samples, start);
         if self.random.coin() {
             self.blind_start();
         }
@@ -310,16 +307,32 @@ impl Master<'_> {
 
     /// Repeats the samples from there on as the recorder would.
     fn resample(&mut self, start: usize) {
-        let taken: Vec<u8> = match self.sampling {
-            Sampling::Once => return,
-            Sampling::Times(times) => repeat(&self.samples[start..], || times),
-            Sampling::Uneven => {
-                let random = &mut *self.random;
-                repeat(&self.samples[start..], || random.between(1, 4))
-            }
-        };
-        self.samples.truncate(start);
+        let made = self.samples.split_off(start);
+        let taken = resampled(self.random, &made, self.sampling);
         self.samples.extend(taken);
+    }
+}
+
+/// Spoils one of the samples from there on.
+pub fn any_glitch(random: &mut Random, samples: &mut Vec<u8>, start: usize) {
+    let at = random.between(start, samples.len() - 1);
+    let sample = samples[at];
+    match random.below(6) {
+        0 => drop(samples.splice(at..at, [sample & !SCLK, sample | SCLK])),
+        1 => samples.insert(at, sample ^ CSB),
+        2 => samples[at] = sample ^ (CSB | SCLK),
+        3 => drop(samples.remove(at)),
+        4 => samples.insert(at, sample ^ SCLK),
+        _ => samples[at] = random.byte() & 0x0F,
+    }
+}
+
+/// Samples repeated as the recorder would.
+pub fn resampled(random: &mut Random, samples: &[u8], sampling: Sampling) -> Vec<u8> {
+    match sampling {
+        Sampling::Once => samples.to_vec(),
+        Sampling::Times(times) => repeat(samples, || times),
+        Sampling::Uneven => repeat(samples, || random.between(1, 4)),
     }
 }
 

@@ -1,6 +1,6 @@
 //! The calls of Ask 3.
 
-#[cfg(host_converter)]
+#[cfg(host_library)]
 extern "C" {
     fn couplingnut_to_version_1(
         map: *const u8,
@@ -19,7 +19,7 @@ extern "C" {
 }
 
 /// The number; the length of the map made is left in its place.
-#[cfg(host_converter)]
+#[cfg(host_library)]
 pub fn to_version_1(map: &[u8], out: &mut [u8], length: &mut u64) -> Option<u32> {
     let (map_length, out_length) = (map.len(), out.len());
     // SAFETY: the pointers and lengths are those of slices and of a number, and
@@ -30,7 +30,7 @@ pub fn to_version_1(map: &[u8], out: &mut [u8], length: &mut u64) -> Option<u32>
 }
 
 /// As `to_version_1`.
-#[cfg(host_converter)]
+#[cfg(host_library)]
 pub fn to_version_2(map: &[u8], out: &mut [u8], length: &mut u64) -> Option<u32> {
     let (map_length, out_length) = (map.len(), out.len());
     // SAFETY: as in `to_version_1`.
@@ -39,12 +39,12 @@ pub fn to_version_2(map: &[u8], out: &mut [u8], length: &mut u64) -> Option<u32>
     })
 }
 
-#[cfg(not(host_converter))]
+#[cfg(not(host_library))]
 pub fn to_version_1(_: &[u8], _: &mut [u8], _: &mut u64) -> Option<u32> {
     None
 }
 
-#[cfg(not(host_converter))]
+#[cfg(not(host_library))]
 pub fn to_version_2(_: &[u8], _: &mut [u8], _: &mut u64) -> Option<u32> {
     None
 }

@@ -1,6 +1,6 @@
 //! The call of Ask 13.
 
-#[cfg(host_frames)]
+#[cfg(host_library)]
 extern "C" {
     fn couplingnut_fewest_frames(
         ascending: u64,
@@ -16,7 +16,7 @@ extern "C" {
 
 /// The number; the length of the orders is left in its place. The addresses are
 /// lent as the bytes that they are in memory.
-#[cfg(host_frames)]
+#[cfg(host_library)]
 pub fn fewest_frames(
     ascending: u64,
     addresses: &[u8],
@@ -43,7 +43,7 @@ pub fn fewest_frames(
     })
 }
 
-#[cfg(not(host_frames))]
+#[cfg(not(host_library))]
 pub fn fewest_frames(_: u64, _: &[u8], _: &[u8], _: &mut [u8], _: &mut u64) -> Option<u32> {
     None
 }

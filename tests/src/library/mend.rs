@@ -1,6 +1,6 @@
 //! The call of Ask 12.
 
-#[cfg(host_mend)]
+#[cfg(host_library)]
 extern "C" {
     fn couplingnut_mend(
         map: *mut u8,
@@ -12,7 +12,7 @@ extern "C" {
 }
 
 /// The number; the length of the list is left in its place.
-#[cfg(host_mend)]
+#[cfg(host_library)]
 pub fn mend(map: &mut [u8], list: &mut [u8], length: &mut u64) -> Option<u32> {
     let (map_length, list_length) = (map.len(), list.len());
     // SAFETY: the pointers and lengths are those of slices and of a number, and
@@ -22,7 +22,7 @@ pub fn mend(map: &mut [u8], list: &mut [u8], length: &mut u64) -> Option<u32> {
     })
 }
 
-#[cfg(not(host_mend))]
+#[cfg(not(host_library))]
 pub fn mend(_: &mut [u8], _: &mut [u8], _: &mut u64) -> Option<u32> {
     None
 }

@@ -1,6 +1,6 @@
 //! The call of Ask 6.
 
-#[cfg(host_setup)]
+#[cfg(host_library)]
 extern "C" {
     fn couplingnut_send_setup(
         settings: u64,
@@ -13,7 +13,7 @@ extern "C" {
 }
 
 /// The number; the count of samples is left in its place.
-#[cfg(host_setup)]
+#[cfg(host_library)]
 pub fn send_setup(settings: u64, list: &[u8], out: &mut [u8], samples: &mut u64) -> Option<u32> {
     // SAFETY: the pointers and lengths are those of slices and of a number, and
     // what is written is borrowed for this call alone.
@@ -29,7 +29,7 @@ pub fn send_setup(settings: u64, list: &[u8], out: &mut [u8], samples: &mut u64)
     })
 }
 
-#[cfg(not(host_setup))]
+#[cfg(not(host_library))]
 pub fn send_setup(_: u64, _: &[u8], _: &mut [u8], _: &mut u64) -> Option<u32> {
     None
 }

@@ -1,13 +1,14 @@
 //! The converter between the two versions of a map (document 02, Ask 3).
 
 use super::map::{RegisterMap, VERSION_1, VERSION_2};
+use super::rules::Newer;
 use super::Answer;
 
 /// Puts the map, as one of version 1, at the start of the outgoing buffer, and
 /// answers its length. Flags can't go along: with bit 0 set the number is 13.
 /// With a refusal (2, 3, 13, 11) the buffer stays as it was.
 pub fn to_version_1(map: &[u8], out: &mut [u8]) -> Answer {
-    match RegisterMap::new(map) {
+    match RegisterMap::new(Newer, map) {
         Ok(map) if map.flags() != 0 => Answer::refused(13),
         Ok(map) => put(VERSION_1, &[], map.entries(), out),
         Err(number) => Answer::refused(number),
@@ -17,7 +18,7 @@ pub fn to_version_1(map: &[u8], out: &mut [u8]) -> Answer {
 /// The same for version 2, with the flags that the map has, or none. It refuses
 /// with 2, 3 and 11.
 pub fn to_version_2(map: &[u8], out: &mut [u8]) -> Answer {
-    match RegisterMap::new(map) {
+    match RegisterMap::new(Newer, map) {
         Ok(map) => put(VERSION_2, &[map.flags()], map.entries(), out),
         Err(number) => Answer::refused(number),
     }

@@ -3,6 +3,8 @@
 
 use std::ops::RangeInclusive;
 
+use super::rules::{Newer, Rules};
+
 pub const BLANK: u8 = 0;
 pub const READ_ONLY: u8 = 1;
 pub const PLAIN: u8 = 2;
@@ -27,9 +29,18 @@ pub struct RegisterMap<'a> {
     entries: &'a [[u8; 3]],
 }
 
-/// Number 0 for a good map, else 2 or 3.
+/// Number 0 for a good map of a newer chip, else 2 or 3.
 pub fn map_test(bytes: &[u8]) -> u8 {
-    RegisterMap::new(bytes).err().unwrap_or(0)
+    map_test_by(Newer, bytes)
+}
+
+/// The same for any chip: 2, 3 or, if it is named with another top, 12.
+pub fn map_test_by(rules: impl Rules, bytes: &[u8]) -> u8 {
+    match RegisterMap::new(rules, bytes) {
+        Ok(map) if !rules.top_stands(map.count()) => 12,
+        Ok(_) => 0,
+        Err(number) => number,
+    }
 }
 
 /// The bytes of the whole map that this length field announces, its own two
@@ -46,9 +57,9 @@ pub fn whole_length(length: u16) -> Option<usize> {
 
 impl<'a> RegisterMap<'a> {
     /// The map in use, or the number that refuses it.
-    pub fn new(bytes: &'a [u8]) -> Result<Self, u8> {
+    pub fn new(rules: impl Rules, bytes: &'a [u8]) -> Result<Self, u8> {
         let (flags, entries) = parts_of(bytes).ok_or(2)?;
-        if entries_stand(entries) {
+        if rules.entries_stand(entries) {
             Ok(RegisterMap { flags, entries })
         } else {
             Err(3)
@@ -94,8 +105,9 @@ pub(super) fn parts_of(bytes: &[u8]) -> Option<(u8, &[[u8; 3]])> {
     header_stands.then_some((flags, entries.as_chunks().0))
 }
 
-/// What number 3 looks at: the rule of each entry, and what each place asks.
-fn entries_stand(entries: &[[u8; 3]]) -> bool {
+/// What number 3 looks at on a newer chip: the rule of each entry, and what each
+/// place asks.
+pub(super) fn entries_stand(entries: &[[u8; 3]]) -> bool {
     let (places, rest) = entries.split_at(PLACES);
     places
         .iter()
@@ -112,7 +124,7 @@ pub(super) fn product_stands(entries: &[[u8; 3]]) -> bool {
     product != 0x0000 && product != 0xFFFF
 }
 
-fn entry_stands([kind, mask, default]: [u8; 3]) -> bool {
+pub(super) fn entry_stands([kind, mask, default]: [u8; 3]) -> bool {
     match kind {
         BLANK | CONTROL => mask == 0 && default == 0,
         READ_ONLY => mask == 0,

@@ -11,6 +11,8 @@
 //! | `reader` | Records; Numbers given back, 1 to 6 |
 //! | `sender` | The sender; Numbers given back, 7 to 11 |
 //! | `report` | The bench program |
+//! | `rules` | what differs from chip to chip |
+//! | `older` | document 02, Ask 1; its sender is in `sender` |
 //! | `converter` | document 02, Ask 3 |
 //! | `setup` | document 02, Ask 6 |
 //! | `mend` | document 02, Ask 12 |
@@ -23,9 +25,11 @@ pub mod converter;
 pub mod frames;
 pub mod map;
 pub mod mend;
+pub mod older;
 pub mod reader;
 pub mod registers;
 pub mod report;
+pub mod rules;
 pub mod sender;
 pub mod session;
 pub mod settings;

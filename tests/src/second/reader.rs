@@ -3,6 +3,7 @@
 
 use super::map::RegisterMap;
 use super::registers::Registers;
+use super::rules::{Newer, Rules};
 use super::session::{Event, Session};
 use super::settings::Settings;
 use super::Answer;
@@ -17,8 +18,17 @@ pub const CUT: u8 = 3;
 /// Puts each default in both banks. The opened session is returned always,
 /// beside the number.
 pub fn open(map: &[u8], active: &mut [u8], buffer: &mut [u8]) -> (u8, Session) {
-    let registers = RegisterMap::new(map).and_then(|map| Registers::new(map, active, buffer));
-    let number = match registers {
+    open_by(Newer, map, active, buffer)
+}
+
+/// The same for any chip, as are those below whose names end so.
+pub fn open_by(
+    rules: impl Rules,
+    map: &[u8],
+    active: &mut [u8],
+    buffer: &mut [u8],
+) -> (u8, Session) {
+    let number = match registers_of(rules, map, active, buffer) {
         Ok(mut registers) => {
             registers.put_defaults();
             0
@@ -26,6 +36,16 @@ pub fn open(map: &[u8], active: &mut [u8], buffer: &mut [u8]) -> (u8, Session) {
         Err(number) => number,
     };
     (number, Session::opened())
+}
+
+/// The registers of a map that is still to be tested.
+fn registers_of<'a, R: Rules>(
+    rules: R,
+    map: &'a [u8],
+    active: &'a mut [u8],
+    buffer: &'a mut [u8],
+) -> Result<Registers<'a, R>, u8> {
+    RegisterMap::new(rules, map).and_then(|map| Registers::new(rules, map, active, buffer))
 }
 
 /// Reads the samples on from the session. With a refusal (1 to 6) session,
@@ -38,10 +58,22 @@ pub fn read(
     samples: &[u8],
     records: &mut [u8],
 ) -> Answer {
-    if !session.is_sound() {
+    read_by(Newer, map, session, active, buffer, samples, records)
+}
+
+pub fn read_by(
+    rules: impl Rules,
+    map: &[u8],
+    session: &mut Session,
+    active: &mut [u8],
+    buffer: &mut [u8],
+    samples: &[u8],
+    records: &mut [u8],
+) -> Answer {
+    if !rules.is_sound(session) {
         return Answer::refused(1);
     }
-    match RegisterMap::new(map).and_then(|map| Registers::new(map, active, buffer)) {
+    match registers_of(rules, map, active, buffer) {
         Ok(mut registers) => read_into(&mut registers, session, samples, records),
         Err(number) => Answer::refused(number),
     }
@@ -50,7 +82,7 @@ pub fn read(
 /// The same for a caller who has had the map and the banks tested and whose
 /// session is sound: 5 and 6 alone are left to refuse.
 pub(super) fn read_into(
-    registers: &mut Registers,
+    registers: &mut Registers<impl Rules>,
     session: &mut Session,
     samples: &[u8],
     records: &mut [u8],
@@ -59,7 +91,9 @@ pub(super) fn read_into(
         return Answer::refused(5);
     }
     let room = records.len() / RECORD;
-    if room < most_records(samples.len()) && room < count_records(*session, samples) {
+    if room < most_records(samples.len())
+        && room < count_records(registers.rules, *session, samples)
+    {
         return Answer::refused(6);
     }
     Answer::done(write_records(registers, session, samples, records))
@@ -76,17 +110,29 @@ pub fn next_record(
     samples: &[u8],
     records: &mut [u8],
 ) -> (Answer, usize) {
-    if !session.is_sound() {
+    next_record_by(Newer, map, session, active, buffer, samples, records)
+}
+
+pub fn next_record_by(
+    rules: impl Rules,
+    map: &[u8],
+    session: &mut Session,
+    active: &mut [u8],
+    buffer: &mut [u8],
+    samples: &[u8],
+    records: &mut [u8],
+) -> (Answer, usize) {
+    if !rules.is_sound(session) {
         return (Answer::refused(1), 0);
     }
-    match RegisterMap::new(map).and_then(|map| Registers::new(map, active, buffer)) {
+    match registers_of(rules, map, active, buffer) {
         Ok(mut registers) => next_record_into(&mut registers, session, samples, records),
         Err(number) => (Answer::refused(number), 0),
     }
 }
 
 fn next_record_into(
-    registers: &mut Registers,
+    registers: &mut Registers<impl Rules>,
     session: &mut Session,
     samples: &[u8],
     records: &mut [u8],
@@ -95,7 +141,7 @@ fn next_record_into(
         return (Answer::refused(5), 0);
     }
     let (mut after, mut at) = (*session, 0);
-    let event = after.next_event(samples, &mut at);
+    let event = after.next_event(registers.rules, samples, &mut at);
     if let Some(event) = event {
         let Some(first) = records.first_chunk_mut() else {
             return (Answer::refused(6), 0);
@@ -117,22 +163,22 @@ fn refused_for_samples(samples: &[u8]) -> bool {
     samples.len() > MOST_SAMPLES || samples.iter().fold(0, |seen, &sample| seen | sample) > 0x0F
 }
 
-fn count_records(mut session: Session, samples: &[u8]) -> usize {
+fn count_records(rules: impl Rules, mut session: Session, samples: &[u8]) -> usize {
     let (mut count, mut at) = (0, 0);
-    while session.next_event(samples, &mut at).is_some() {
+    while session.next_event(rules, samples, &mut at).is_some() {
         count += 1;
     }
     count
 }
 
 fn write_records(
-    registers: &mut Registers,
+    registers: &mut Registers<impl Rules>,
     session: &mut Session,
     samples: &[u8],
     records: &mut [u8],
 ) -> usize {
     let (mut count, mut at) = (0, 0);
-    while let Some(event) = session.next_event(samples, &mut at) {
+    while let Some(event) = session.next_event(registers.rules, samples, &mut at) {
         let record = record_of(event, registers, session.settings);
         records[RECORD * count..RECORD * (count + 1)].copy_from_slice(&record);
         count += 1;
@@ -141,7 +187,11 @@ fn write_records(
 }
 
 /// What the event does to the registers, and its record.
-fn record_of(event: Event, registers: &mut Registers, settings: Settings) -> [u8; RECORD] {
+fn record_of(
+    event: Event,
+    registers: &mut Registers<impl Rules>,
+    settings: Settings,
+) -> [u8; RECORD] {
     match event {
         Event::Written { address, byte } => {
             let written = registers.write(address, byte, settings);

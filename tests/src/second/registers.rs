@@ -1,9 +1,8 @@
 //! The registers in their two stages, and what a whole byte does to them.
 
 use super::map::{RegisterMap, BLANK, BUFFERED, CONTROL, PLAIN, READ_ONLY};
-use super::settings::{asks_soft_reset, is_own_mirror, Settings, CONFIGURATION_A};
-
-const TRANSFER: u16 = 0x000F;
+use super::rules::Rules;
+use super::settings::Settings;
 
 pub const NO_EFFECT: u8 = 0;
 pub const ACTIVE_WRITTEN: u8 = 1;
@@ -12,8 +11,9 @@ pub const CONTROL_WRITTEN: u8 = 3;
 pub const TRANSFERRED: u8 = 4;
 pub const SOFT_RESET: u8 = 5;
 
-/// A map in use with its two banks of n bytes each.
-pub struct Registers<'a> {
+/// A map in use with its two banks of n bytes each, by the rules of a chip.
+pub struct Registers<'a, R> {
+    pub(super) rules: R,
     map: RegisterMap<'a>,
     active: &'a mut [u8],
     buffer: &'a mut [u8],
@@ -27,17 +27,21 @@ pub struct Written {
     pub moved: u8,
 }
 
-impl<'a> Registers<'a> {
-    /// The banks are n bytes each, or the number 4 refuses them.
+impl<'a, R: Rules> Registers<'a, R> {
+    /// The banks are n bytes each, or the number 4 refuses them; and where the map
+    /// is named with another top, 12 does.
     pub fn new(
+        rules: R,
         map: RegisterMap<'a>,
         active: &'a mut [u8],
         buffer: &'a mut [u8],
     ) -> Result<Self, u8> {
-        if active.len() == map.count() && buffer.len() == map.count() {
-            Ok(Registers { map, active, buffer })
-        } else {
+        if active.len() != map.count() || buffer.len() != map.count() {
             Err(4)
+        } else if !rules.top_stands(map.count()) {
+            Err(12)
+        } else {
+            Ok(Registers { rules, map, active, buffer })
         }
     }
 
@@ -60,23 +64,14 @@ impl<'a> Registers<'a> {
             Some([PLAIN, mask, _]) => write_stage(&mut self.active[at], mask, v, ACTIVE_WRITTEN),
             Some([BUFFERED, mask, _]) => write_stage(&mut self.buffer[at], mask, v, BUFFER_WRITTEN),
             Some(_) => {
-                let effect = self.write_control(address, v);
-                Written { byte: settings.control_reading(address), effect, moved: 0 }
+                let effect = self.rules.control_effect(address, v);
+                match effect {
+                    SOFT_RESET => self.put_defaults(),
+                    TRANSFERRED => self.transfer(),
+                    _ => {}
+                }
+                Written { byte: self.rules.control_reading(settings, address), effect, moved: 0 }
             }
-        }
-    }
-
-    fn write_control(&mut self, address: u16, v: u8) -> u8 {
-        if address == CONFIGURATION_A && !is_own_mirror(v) {
-            NO_EFFECT
-        } else if address == CONFIGURATION_A && asks_soft_reset(v) {
-            self.put_defaults();
-            SOFT_RESET
-        } else if address == TRANSFER && v & 1 != 0 {
-            self.transfer();
-            TRANSFERRED
-        } else {
-            CONTROL_WRITTEN
         }
     }
 
@@ -95,8 +90,8 @@ impl<'a> Registers<'a> {
         let at = usize::from(address);
         match self.map.entry(address) {
             None | Some([BLANK, ..]) => 0,
-            Some([CONTROL, ..]) => settings.control_reading(address),
-            Some([BUFFERED, ..]) if settings.has(Settings::BUFFER_READBACK) => self.buffer[at],
+            Some([CONTROL, ..]) => self.rules.control_reading(settings, address),
+            Some([BUFFERED, ..]) if self.rules.reads_buffer(settings) => self.buffer[at],
             Some(_) => self.active[at],
         }
     }

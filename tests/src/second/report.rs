@@ -5,6 +5,7 @@ use std::io::{self, Read, Write};
 use super::map::{whole_length, RegisterMap};
 use super::reader::{self, most_records, RECORD, WRITE};
 use super::registers::Registers;
+use super::rules::Newer;
 use super::session::Session;
 use super::settings::asks_slow;
 
@@ -27,21 +28,22 @@ pub fn report(input: &[u8]) -> Vec<u8> {
 pub fn report_to(mut input: impl Read, mut output: impl Write) -> io::Result<()> {
     let mut map = [0; LARGEST_MAP];
     let length = read_map(&mut input, &mut map)?;
-    let map = match RegisterMap::new(&map[..length]) {
+    let map = match RegisterMap::new(Newer, &map[..length]) {
         Ok(map) => map,
         Err(number) => return writeln!(output, "refused {number}"),
     };
     writeln!(output, "map {}", map.count())?;
     let (mut active, mut buffer) = ([0; LARGEST_COUNT], [0; LARGEST_COUNT]);
-    let mut registers = Registers::new(map, &mut active[..map.count()], &mut buffer[..map.count()])
-        .expect("the banks were cut to the count");
+    let (active, buffer) = (&mut active[..map.count()], &mut buffer[..map.count()]);
+    let mut registers =
+        Registers::new(Newer, map, active, buffer).expect("the banks were cut to the count");
     registers.put_defaults();
     report_trace(registers, input, output)
 }
 
 /// Lines of the samples up to the end, and the count line or the refusal.
 fn report_trace(
-    mut registers: Registers,
+    mut registers: Registers<Newer>,
     mut input: impl Read,
     mut output: impl Write,
 ) -> io::Result<()> {

@@ -2,7 +2,8 @@
 //! Registers play no part here; only the settings are kept, because they
 //! decide how the next bits are read.
 
-use super::settings::{Settings, CONFIGURATION_B};
+use super::rules::{Newer, Rules};
+use super::settings::Settings;
 
 pub const CSB: u8 = 1 << 0;
 pub const SCLK: u8 = 1 << 1;
@@ -10,7 +11,7 @@ pub const SDIO: u8 = 1 << 2;
 pub const SDO: u8 = 1 << 3;
 
 /// Addresses have fifteen bits and wrap.
-const LAST_ADDRESS: u16 = 0x7FFF;
+pub(super) const LAST_ADDRESS: u16 = 0x7FFF;
 
 #[derive(Clone, Copy, Debug, PartialEq, Eq)]
 pub enum Phase {
@@ -32,6 +33,9 @@ pub struct Session {
     pub settings: Settings,
     /// The first four settings as the present instruction took them.
     pub in_use: Settings,
+    /// In data of an older chip, the bytes left of the run, the present one
+    /// included, or `STREAMING`; else 0.
+    pub left: u8,
 }
 
 /// What one sample brought to an end.
@@ -54,18 +58,28 @@ impl Session {
             read: false,
             settings: Settings::NONE,
             in_use: Settings::NONE,
+            left: 0,
         }
     }
 
+    /// Whether it is sound for a newer chip.
     pub fn is_sound(&self) -> bool {
-        let selected = self.levels & CSB == 0;
+        Newer.is_sound(self)
+    }
+
+    pub(super) fn is_selected(&self) -> bool {
+        self.levels & CSB == 0
+    }
+
+    /// What is asked of each phase on every chip.
+    pub(super) fn piece_stands(&self) -> bool {
         let value_fits = u32::from(self.value) < 1 << self.bits.min(16);
         let nothing_taken = self.bits == 0 && self.value == 0;
         let no_target = self.address == 0 && !self.read;
         let phase_stands = match self.phase {
-            Phase::Rest => !selected && nothing_taken && no_target && self.in_use == Settings::NONE,
-            Phase::Instruction => selected && self.bits <= 15 && value_fits && no_target,
-            Phase::Data => selected && self.bits <= 7 && value_fits && self.address <= LAST_ADDRESS,
+            Phase::Rest => nothing_taken && no_target && self.in_use == Settings::NONE,
+            Phase::Instruction => self.is_selected() && self.bits <= 15 && value_fits && no_target,
+            Phase::Data => self.bits <= 7 && value_fits && self.address <= LAST_ADDRESS,
         };
         // The last two only say that the fields hold what they are meant for.
         phase_stands && self.levels <= (CSB | SCLK) && self.in_use == self.in_use.usable()
@@ -73,16 +87,21 @@ impl Session {
 
     /// Takes samples of a sound session, from `at` on, up to the first that
     /// brings something to an end, or all of them.
-    pub(super) fn next_event(&mut self, samples: &[u8], at: &mut usize) -> Option<Event> {
+    pub(super) fn next_event(
+        &mut self,
+        rules: impl Rules,
+        samples: &[u8],
+        at: &mut usize,
+    ) -> Option<Event> {
         while *at < samples.len() {
-            if self.phase == Phase::Rest {
-                *at = self.wait(samples, *at);
+            if self.waits(rules) {
+                *at = self.wait(rules, samples, *at);
                 continue;
             }
-            *at = self.take_bits(samples, *at);
+            *at = self.take_bits(rules, samples, *at);
             if *at < samples.len() {
                 *at += 1;
-                let event = self.end_piece(samples[*at - 1]);
+                let event = self.end_piece(rules, samples[*at - 1]);
                 if event.is_some() {
                     return event;
                 }
@@ -91,15 +110,23 @@ impl Session {
         None
     }
 
-    /// Takes samples at rest up to the one where CSB falls, and gives the
-    /// place after them.
+    /// Whether nothing is taken before CSB moves.
     #[inline(always)]
-    fn wait(&mut self, samples: &[u8], mut at: usize) -> usize {
-        while samples[at] & CSB != 0 && at + 1 < samples.len() {
+    fn waits<R: Rules>(&self, _: R) -> bool {
+        self.phase == Phase::Rest || R::OLDER && !self.is_selected()
+    }
+
+    /// Takes samples up to the one where CSB moves, and gives the place after
+    /// them. Only an older chip, passing over bits, waits for a rise; and only its
+    /// run that stands still goes on where it was as CSB falls.
+    #[inline(always)]
+    fn wait<R: Rules>(&mut self, _: R, samples: &[u8], mut at: usize) -> usize {
+        let before = if R::OLDER { self.levels & CSB } else { CSB };
+        while samples[at] & CSB == before && at + 1 < samples.len() {
             at += 1;
         }
         self.levels = samples[at] & (CSB | SCLK);
-        if samples[at] & CSB == 0 {
+        if before != 0 && self.is_selected() && self.phase == Phase::Rest {
             self.start_instruction();
         }
         at + 1
@@ -108,8 +135,8 @@ impl Session {
     /// Takes bits of the present instruction or byte up to its last one or to
     /// the rise of CSB, and gives the place of that sample.
     #[inline(always)]
-    fn take_bits(&mut self, samples: &[u8], mut at: usize) -> usize {
-        let (line, lsb_first) = (self.line(), self.in_use.has(Settings::LSB_FIRST));
+    fn take_bits(&mut self, rules: impl Rules, samples: &[u8], mut at: usize) -> usize {
+        let (line, lsb_first) = (self.line(rules), self.in_use.has(Settings::LSB_FIRST));
         let last = if self.phase == Phase::Data { 7 } else { 15 };
         let (mut sclk, mut bits, mut value) = (self.levels & SCLK, self.bits, self.value);
         while at < samples.len() && samples[at] & CSB == 0 {
@@ -132,33 +159,49 @@ impl Session {
     /// Takes the sample that ends the frame, or gives the present instruction
     /// or byte its last bit.
     #[inline(always)]
-    fn end_piece(&mut self, sample: u8) -> Option<Event> {
+    fn end_piece(&mut self, rules: impl Rules, sample: u8) -> Option<Event> {
         self.levels = sample & (CSB | SCLK);
         if sample & CSB != 0 {
-            return self.end_frame();
+            return self.end_frame(rules);
         }
-        let value = self.with_last_bit(sample);
+        let value = self.with_last_bit(rules, sample);
         if self.phase == Phase::Data {
-            Some(self.end_byte(value as u8))
+            Some(self.end_byte(rules, value as u8))
         } else {
-            self.start_data(value);
+            rules.start_data(self, value);
             None
         }
     }
 
     #[inline(always)]
-    fn start_instruction(&mut self) {
+    pub(super) fn start_instruction(&mut self) {
         self.phase = Phase::Instruction;
         self.forget_piece();
         self.in_use = self.settings.usable();
     }
 
+    /// No bits of a byte, for this address.
     #[inline(always)]
-    fn end_frame(&mut self) -> Option<Event> {
-        let Session { address, bits, phase, .. } = *self;
+    pub(super) fn start_byte(&mut self, address: u16) {
+        (self.bits, self.value) = (0, 0);
+        self.address = address;
+    }
+
+    /// At rest; with CSB low, an older chip then passes over bits.
+    #[inline(always)]
+    pub(super) fn rest(&mut self) {
         self.phase = Phase::Rest;
         self.forget_piece();
         self.in_use = Settings::NONE;
+    }
+
+    #[inline(always)]
+    fn end_frame(&mut self, rules: impl Rules) -> Option<Event> {
+        if rules.stalls(self) {
+            return None;
+        }
+        let Session { address, bits, phase, .. } = *self;
+        self.rest();
         if bits == 0 {
             None
         } else {
@@ -167,25 +210,12 @@ impl Session {
     }
 
     #[inline(always)]
-    fn start_data(&mut self, instruction: u16) {
-        self.phase = Phase::Data;
-        self.read = instruction & 0x8000 != 0;
-        self.address = instruction & LAST_ADDRESS;
-        (self.bits, self.value) = (0, 0);
-    }
-
-    #[inline(always)]
-    fn end_byte(&mut self, byte: u8) -> Event {
+    fn end_byte(&mut self, rules: impl Rules, byte: u8) -> Event {
         let Session { address, read, .. } = *self;
-        if !read && address <= CONFIGURATION_B {
-            self.settings = self.settings.after_write(address, byte);
+        if !read {
+            self.settings = rules.settings_after(self.settings, address, byte);
         }
-        if self.in_use.has(Settings::SINGLE_INSTRUCTION) {
-            self.start_instruction();
-        } else {
-            self.address = next_address(address, self.in_use.has(Settings::ASCENDING));
-            (self.bits, self.value) = (0, 0);
-        }
+        rules.next_byte(self);
         if read {
             Event::Read { address, byte }
         } else {
@@ -196,20 +226,20 @@ impl Session {
     #[inline(always)]
     fn forget_piece(&mut self) {
         (self.bits, self.value) = (0, 0);
-        (self.address, self.read) = (0, false);
+        (self.address, self.read, self.left) = (0, false, 0);
     }
 
     #[inline(always)]
-    fn with_last_bit(&self, sample: u8) -> u16 {
+    fn with_last_bit(&self, rules: impl Rules, sample: u8) -> u16 {
         let lsb_first = self.in_use.has(Settings::LSB_FIRST);
-        shift_in(self.value, self.bits, sample >> self.line() & 1, lsb_first)
+        shift_in(self.value, self.bits, sample >> self.line(rules) & 1, lsb_first)
     }
 
     /// The line that bits come from, as its place in a sample. Only data has
     /// the direction set: an instruction always comes from SDIO.
     #[inline(always)]
-    fn line(&self) -> u32 {
-        let from_sdo = self.read && self.in_use.has(Settings::SDO_ACTIVE);
+    fn line(&self, rules: impl Rules) -> u32 {
+        let from_sdo = self.read && rules.reads_sdo(self.in_use);
         if from_sdo { SDO } else { SDIO }.trailing_zeros()
     }
 }

@@ -38,6 +38,12 @@ impl Settings {
         Settings(self.0 | more.0)
     }
 
+    /// With this one set or clear.
+    #[inline(always)]
+    pub(super) fn set(self, one: Settings, on: bool) -> Settings {
+        Settings(if on { self.0 | one.0 } else { self.0 & !one.0 })
+    }
+
     /// The four that an instruction takes in use.
     #[inline(always)]
     pub(super) fn usable(self) -> Settings {

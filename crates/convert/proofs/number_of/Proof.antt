@@ -8,6 +8,7 @@ use borrow.Author.Tests.{eq-eqb, ne-eqb, lt-leb, le-leb}
 use lib.ListN.{length}
 use lib.Dec.{eqb}
 use Rattle.bits.proofs.Cases.{yes, no}
+use Rattle.chip.specs.declared.Chip.the-variants.{Newer}
 use Rattle.regmap.specs.Format.{flagsOf, mostCount}
 use Rattle.regmap.proofs.Laws.{head-size-bounds}
 use Rattle.maptest.specs.MapTest.{mapNumber}
@@ -18,7 +19,7 @@ use Rattle.convert.proofs.number_of.Statement.{statement}
 use Rattle.convert.proofs.number_of.Tie as tie
 
 -- the map is good
-good : (c : tie.Else1) → mapNumber (c .before .before .before .args .map .now) ≡ 0
+good : (c : tie.Else1) → mapNumber Newer (c .before .before .before .args .map .now) ≡ 0
 good c = sym (c .before .map-test .ensures) ∙ c .if1 .left
 
 -- and nothing is lost
@@ -33,7 +34,7 @@ size c =
     omega (arith, length-converted (a .wished) (a .map .now) (good (c .before .before .before .before)), c .before .head-size .ensures, c .count .ensures)
 
 few : (c : tie.After-count) → c .count .result ≤ mostCount
-few c = omega (arith, c .count .ensures, good-count _ (good (c .before .before .before .before)) .1)
+few c = omega (arith, c .count .ensures, good-count Newer _ (good (c .before .before .before .before)) .1)
 
 map-test-requires : tie.Need-map-test-requires
 map-test-requires c κs = search needs

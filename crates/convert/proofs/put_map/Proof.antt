@@ -7,6 +7,7 @@ use borrow.Author.Tests.{eq-eqb, ne-eqb}
 use lib.ListN.{length, length-drop}
 use lib.Dec.{eqb}
 use Rattle.bits.proofs.Putting.{put-both}
+use Rattle.chip.specs.declared.Chip.the-variants.{Newer}
 use Rattle.regmap.specs.Format.{versionOf}
 use Rattle.maptest.proofs.Laws.{good-form, good-count}
 use Rattle.convert.specs.Convert.{convertedTo}
@@ -47,7 +48,7 @@ put-head-requires c κs =
     let s = c .before .before .before .before .before .before in
     let t = taken s in
     let e = c .before .count .ensures in (
-      omega (arith, e, good-count _ (t .good) .1),
+      omega (arith, e, good-count Newer _ (t .good) .1),
       omega (arith, length-head (s .args .wished) (c .before .count .result), length-converted (s .args .wished) _ (t .good), t .enough),
     )
 
@@ -62,8 +63,8 @@ put-rest-requires-2 c κs =
     let t = taken s in
     let n = h .before .before .count .result in
     let e = c .before .head .ensures in (
-      omega (arith, e, good-form m (t .good)),
-      omega (arith, e, good-form m (t .good), length-drop (c .before .head .result) m, h .put-head .ensures .next-place, length-head (s .args .wished) n, length-converted (s .args .wished) m (t .good), t .enough, h .put-head .kept),
+      omega (arith, e, good-form Newer m (t .good)),
+      omega (arith, e, good-form Newer m (t .good), length-drop (c .before .head .result) m, h .put-head .ensures .next-place, length-head (s .args .wished) n, length-converted (s .args .wished) m (t .good), t .enough, h .put-head .kept),
     )
 
 same-length-2 : tie.Need-same-length-2

@@ -1,6 +1,7 @@
 -- `maptest::further_good` meets its contract: its tests are the further ones, in their order.
 use mathlib.Core.Bool.{true}
 use borrow.Author.Needs.{needs}
+use Rattle.chip.specs.declared.Chip.the-variants.{Newer}
 use Rattle.maptest.specs.MapTest.{furtherTests}
 use Rattle.bits.proofs.Cases.{joined-every}
 use Rattle.maptest.proofs.further_good.Statement.{statement}
@@ -36,7 +37,7 @@ returns c =
       vendor-high .register-at2 .ensures,
       vendor-low .register-at .ensures,
     )
-    (joined-every true (furtherTests (vendor-low .before .before .before .args .map .now)))
+    (joined-every true (furtherTests Newer (vendor-low .before .before .before .args .map .now)))
 
 pub further-good-spec : {M : Type 1} → statement M
 further-good-spec =

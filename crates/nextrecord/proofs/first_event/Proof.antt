@@ -11,10 +11,10 @@ use Rattle.nextrecord.proofs.first_event.Statement.{statement}
 use Rattle.nextrecord.proofs.first_event.Tie as tie
 
 abbrev Inv-loop : tie.InvT-loop
-Inv-loop samples s₀ at₀ s at = Searching samples s₀ s at
+Inv-loop chip samples s₀ at₀ s at = Searching chip samples s₀ s at
 
 abbrev μ-loop : tie.MeasureT-loop
-μ-loop samples s₀ at₀ s at = length samples - at
+μ-loop chip samples s₀ at₀ s at = length samples - at
 
 loop-holds : tie.Need-loop-holds Inv-loop μ-loop
 loop-holds c = record { within = omega arith; sound = c .before .pre; path = still }

@@ -18,26 +18,26 @@ returns : tie.Need-returns
 returns c =
     let a = c .before .before .before .before .before .before .before .before .before .args in
     let w = world (a .session) (a .active .now) (a .buffer .now) in
-    read-refused (a .map .now) w (a .samples .now) (a .records .now) _ (c .before .read-refusal .ensures) (c .if1 .taken)
+    read-refused (a .chip) (a .map .now) w (a .samples .now) (a .records .now) _ (c .before .read-refusal .ensures) (c .if1 .taken)
 
 run-samples-requires : tie.Need-run-samples-requires
-run-samples-requires c κs = read-ready _ _ _ _ _ (c .before .before .before .before .read-refusal .ensures) (c .before .before .before .if1 .left)
+run-samples-requires c κs = read-ready _ _ _ _ _ _ (c .before .before .before .before .read-refusal .ensures) (c .before .before .before .if1 .left)
 
 same-length-3 : tie.Need-same-length-3
-same-length-3 c = c .before .before .before .before .before .before .before .before .run-samples .kept .1 .1 .1 .0
+same-length-3 c = c .before .before .before .before .before .before .before .before .run-samples .kept .1 .1 .1 .1 .0
 
 same-length-4 : tie.Need-same-length-4
-same-length-4 c = c .before .before .before .before .before .before .before .before .run-samples .kept .1 .1 .1 .1 .0
+same-length-4 c = c .before .before .before .before .before .before .before .before .run-samples .kept .1 .1 .1 .1 .1 .0
 
 same-length-5 : tie.Need-same-length-5
-same-length-5 c = c .before .before .before .before .before .before .before .before .run-samples .kept .1 .1 .1 .1 .1 .1 .0
+same-length-5 c = c .before .before .before .before .before .before .before .before .run-samples .kept .1 .1 .1 .1 .1 .1 .1 .0
 
 returns-2 : tie.Need-returns-2
 returns-2 c =
     let a = c .before .before .before .before .before .before .before .before .before .before .before .before .before .before .before .before .before .before .before .before .before .args in
     let w = world (a .session) (a .active .now) (a .buffer .now) in
     let tests = c .before .before .before .before .before .before .before .before .before .before .before .before in
-    read-done (a .map .now) w (a .samples .now) (a .records .now) _ (tests .before .read-refusal .ensures) (tests .if1 .left)
+    read-done (a .chip) (a .map .now) w (a .samples .now) (a .records .now) _ (tests .before .read-refusal .ensures) (tests .if1 .left)
     _ _ _ (c .before .before .before .before .before .before .before .before .run-samples .ensures .done refl)
 
 pub read-tested-spec : {M : Type 1} → statement M

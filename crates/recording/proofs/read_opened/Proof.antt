@@ -1,16 +1,22 @@
--- `read_opened` meets its contract and what its calls ask: a map that was opened is good, and one that was not has a number.
+-- `read_opened` meets its contract and what its calls ask: a map that was opened is good, with the top that it gives, and one that was
+-- not has a number.
 use native.Mathlib.Omega.{arith}
 use Rattle.reader.proofs.Laws.{opened-good}
-use Rattle.recording.proofs.Laws.{open-told}
+use Rattle.recording.proofs.Laws.{top-of-map, open-told}
 use borrow.Author.Needs.{needs}
 use Rattle.recording.proofs.read_opened.Statement.{statement}
 use Rattle.recording.proofs.read_opened.Tie as tie
 
-open-requires : tie.Need-open-requires
-open-requires c κs = tt
+chip-of-requires : tie.Need-chip-of-requires
+chip-of-requires c κs = tt
+
+open-on-requires : tie.Need-open-on-requires
+open-on-requires c κs = tt
 
 refuse-requires : tie.Need-refuse-requires
-refuse-requires c κs = (omega (arith, c .if1 .taken), open-told _ _ (c .before .before .before .before .before .«open» .ensures))
+refuse-requires c κs =
+    let o = c .before .before .before .before .before in
+    (omega (arith, c .if1 .taken), open-told _ _ (o .before .before .before .chip-of .ensures) _ (o .open-on .ensures))
 
 unread-requires : tie.Need-unread-requires
 unread-requires c κs = tt
@@ -33,7 +39,9 @@ write-map-line-requires c κs = tt
 read-trace-requires : tie.Need-read-trace-requires
 read-trace-requires c κs =
     let t = c .before .before .before .before .before in
-    opened-good _ _ (t .before .before .before .before .before .«open» .ensures) (t .if1 .left)
+    let o = t .before .before .before .before .before in
+    let good = opened-good _ _ _ (o .open-on .ensures) (t .if1 .left) in
+    (good, top-of-map _ _ (o .before .before .before .chip-of .ensures) good)
 
 same-length-3 : tie.Need-same-length-3
 same-length-3 c = search needs
@@ -60,7 +68,8 @@ pub read-opened-spec : {M : Type 1} → statement M
 read-opened-spec =
     tie.close
     (tie.spec
-    open-requires
+    chip-of-requires
+    open-on-requires
     refuse-requires
     unread-requires
     same-length

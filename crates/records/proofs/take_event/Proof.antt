@@ -55,10 +55,10 @@ returns-2 : tie.Need-returns-2
 returns-2 c = took-nothing (c .enum-told .given .1)
 
 same-length-4 : tie.Need-same-length-4
-same-length-4 c = c .before .before .before .before .before .before .before .before .write .kept .1 .0
+same-length-4 c = c .before .before .before .before .before .before .before .before .write .kept .1 .1 .0
 
 same-length-5 : tie.Need-same-length-5
-same-length-5 c = c .before .before .before .before .before .before .before .before .write .kept .1 .1 .0
+same-length-5 c = c .before .before .before .before .before .before .before .before .write .kept .1 .1 .1 .0
 
 same-length-6 : tie.Need-same-length-6
 same-length-6 c = c .before .before .put-write .kept .0

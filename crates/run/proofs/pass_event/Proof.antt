@@ -10,13 +10,13 @@ take-event-requires : tie.Need-take-event-requires
 take-event-requires c κs = c .before .before .before .before .before .before .before .before .pre .taking (c .before .before .before .if1 .taken)
 
 same-length : tie.Need-same-length
-same-length c = c .before .before .before .before .before .before .take-event .kept .1 .0
+same-length c = c .before .before .before .before .before .before .take-event .kept .1 .1 .0
 
 same-length-2 : tie.Need-same-length-2
-same-length-2 c = c .before .before .before .before .before .before .take-event .kept .1 .1 .0
+same-length-2 c = c .before .before .before .before .before .before .take-event .kept .1 .1 .1 .0
 
 same-length-3 : tie.Need-same-length-3
-same-length-3 c = c .before .before .before .before .before .before .take-event .kept .1 .1 .1 .1 .1 .0
+same-length-3 c = c .before .before .before .before .before .before .take-event .kept .1 .1 .1 .1 .1 .1 .0
 
 returns : tie.Need-returns
 returns c =

@@ -9,12 +9,12 @@ use Rattle.run.proofs.run_samples.Statement.{statement}
 use Rattle.run.proofs.run_samples.Tie as tie
 
 abbrev Inv-loop : tie.InvT-loop
-Inv-loop put map active₀ buffer₀ samples records₀ s₀ at₀ i₀ active buffer records s at i =
+Inv-loop chip put map active₀ buffer₀ samples records₀ s₀ at₀ i₀ active buffer records s at i =
     ((length active ≡ length active₀) × (length buffer ≡ length buffer₀) × (length records ≡ length records₀))
-    × Running put map samples (world s₀ active₀ buffer₀) (world s active buffer) records₀ records at i
+    × Running chip put map samples (world s₀ active₀ buffer₀) (world s active buffer) records₀ records at i
 
 abbrev μ-loop : tie.MeasureT-loop
-μ-loop put map active₀ buffer₀ samples records₀ s₀ at₀ i₀ active buffer records s at i = length samples - i
+μ-loop chip put map active₀ buffer₀ samples records₀ s₀ at₀ i₀ active buffer records s at i = length samples - i
 
 loop-holds : tie.Need-loop-holds Inv-loop μ-loop
 loop-holds c = ((refl, refl, refl), running-begun (c .before .before .before .before .before .pre))
@@ -36,7 +36,7 @@ loop-again : tie.Need-loop-again Inv-loop μ-loop
 loop-again c =
     let k = c .before .before .before .before .before .before .before .before .before .before .before .before .before .before .loop .inv in
     let p = c .before .before .before .before .before .before .before .pass-event in (
-      (p .kept .1 .1 .0 ∙ k .0 .0, p .kept .1 .1 .1 .0 ∙ k .0 .1, p .kept .1 .1 .1 .1 .1 .1 .0 ∙ k .0 .2),
+      (p .kept .1 .1 .1 .0 ∙ k .0 .0, p .kept .1 .1 .1 .1 .0 ∙ k .0 .1, p .kept .1 .1 .1 .1 .1 .1 .1 .0 ∙ k .0 .2),
       running-on (k .1) (c .before .before .before .before .before .before .before .before .before .before .before .before .next-event .ensures .path) (p .ensures),
     )
 

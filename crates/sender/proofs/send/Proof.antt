@@ -1,6 +1,7 @@
 -- `send` meets its contract: the number decides, and the samples are put only where it is 0.
 use mathlib.Core.Path.{sym, _∙_}
 use borrow.Author.Needs.{needs}
+use Rattle.chip.specs.declared.Chip.the-variants.{Newer}
 use Rattle.order.specs.Order.{Order, order}
 use Rattle.sender.proofs.Answer.{done, refused}
 use Rattle.sender.proofs.send.Statement.{statement}
@@ -21,10 +22,10 @@ same-length c = search needs
 returns : tie.Need-returns
 returns c =
     let p = c .before .before .before .before in
-    done (asked (p .before .before .before .before)) _ _ _ _ (p .before .number-of .ensures) (p .if1 .taken) (c .before .before .put-samples .ensures)
+    done Newer (asked (p .before .before .before .before)) _ _ _ _ (p .before .number-of .ensures) (p .if1 .taken) (c .before .before .put-samples .ensures)
 
 returns-2 : tie.Need-returns-2
-returns-2 c = refused (asked (c .before .before .before .before)) _ _ (c .before .number-of .ensures) (c .if1 .left)
+returns-2 c = refused Newer (asked (c .before .before .before .before)) _ _ (c .before .number-of .ensures) (c .if1 .left)
 
 pub send-spec : {M : Type 1} → statement M
 send-spec = tie.close (tie.spec number-of-requires put-samples-requires same-length returns returns-2)

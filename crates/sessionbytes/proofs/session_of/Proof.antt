@@ -67,10 +67,13 @@ shared-slice-read-t49 c = search needs
 shared-slice-read-t52 : tie.Need-shared-slice-read-t52
 shared-slice-read-t52 c = search needs
 
+shared-slice-read-t56 : tie.Need-shared-slice-read-t56
+shared-slice-read-t56 c = search needs
+
 returns : tie.Need-returns
 unfolding sessionOf
 returns c =
-    let two = c .before .before .before .before .before .before .before .before .before .before in
+    let two = c .before .before .before .before .before .before .before .before .before .before .before in
     let one = two .before .before .before in
     rw (two .word2 .ensures, one .word .ensures, one .before .before .before .before .phase-of .ensures)
 
@@ -99,4 +102,5 @@ session-of-spec =
     shared-slice-read-t46
     shared-slice-read-t49
     shared-slice-read-t52
+    shared-slice-read-t56
     returns)

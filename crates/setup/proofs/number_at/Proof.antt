@@ -1,6 +1,7 @@
 -- `number_at` meets its contract: with room for any order, the sender's number is the order's own.
 use mathlib.Core.Path.{ap, _∙_}
 use native.Mathlib.Omega.{arith}
+use Rattle.chip.specs.declared.Chip.the-variants.{Newer}
 use Rattle.order.specs.Order.{Order}
 use Rattle.order.specs.Number.{sendNumber}
 use Rattle.order.proofs.Laws.{number-alone}
@@ -40,7 +41,7 @@ returns c =
     let s = c .before .before .before .before .before in
     let o = c .before .before .order-at in
     let here = data-here (o .result) (s .args .settings) (s .args .list .now) (s .args .at) _ (c .before .before .before .after .ensures) (o .ensures) in
-    c .number-of .ensures ∙ ap (λ (order : Order). sendNumber order mostSamples) here ∙ number-alone _ mostSamples (omega arith)
+    c .number-of .ensures ∙ ap (λ (order : Order). sendNumber Newer order mostSamples) here ∙ number-alone Newer _ mostSamples (omega arith)
 
 pub number-at-spec : {M : Type 1} → statement M
 number-at-spec =

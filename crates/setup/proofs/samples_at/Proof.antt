@@ -4,6 +4,7 @@ use native.Mathlib.Omega.{arith}
 use borrow.Author.Needs.{needs}
 use borrow.Author.Tests.{eq-eqb, ne-eqb}
 use Rattle.bits.proofs.Cases.{yes, no}
+use Rattle.chip.specs.declared.Chip.the-variants.{Newer}
 use Rattle.order.specs.Order.{Order}
 use Rattle.order.proofs.Laws.{admitted, length-counted}
 use Rattle.setup.proofs.samples_at.Statement.{statement}
@@ -18,7 +19,7 @@ order-at-requires c κs = search needs
 cast-bit-at : tie.Need-cast-bit-at
 cast-bit-at c =
     let s = c .before .before .before .before in
-    omega (arith, admitted _ _ (s .pre .1 (c .before .before .if1 .left)) .settings, ap (λ (o : Order). o .settings) (c .before .order-at .ensures))
+    omega (arith, admitted Newer _ _ (s .pre .1 (c .before .before .if1 .left)) .settings, ap (λ (o : Order). o .settings) (c .before .order-at .ensures))
 
 bit-at-requires : tie.Need-bit-at-requires
 bit-at-requires c κs = search needs
@@ -26,7 +27,7 @@ bit-at-requires c κs = search needs
 sample-count-requires : tie.Need-sample-count-requires
 sample-count-requires c κs =
     let s = c .before .before .before .before .before in
-    omega (arith, admitted _ _ (s .pre .1 (c .before .before .before .if1 .left)) .count .most, ap (λ (o : Order). o .count) (c .before .before .order-at .ensures))
+    omega (arith, admitted Newer _ _ (s .pre .1 (c .before .before .before .if1 .left)) .count .most, ap (λ (o : Order). o .count) (c .before .before .order-at .ensures))
 
 returns-2 : tie.Need-returns-2
 returns-2 c =
@@ -35,7 +36,7 @@ returns-2 c =
     let good = c .before .before .before .before .if1 .left in
     yes _ (eq-eqb _ _ good)
     (rw (c .before .bit-at .ensures, ap (λ (o : Order). o .settings) o, ap (λ (o : Order). o .count) o) at (c .sample-count .ensures)
-    ∙ sym (length-counted _ (admitted _ _ (s .pre .1 good) .count)))
+    ∙ sym (length-counted Newer _ (admitted Newer _ _ (s .pre .1 good) .count)))
 
 pub samples-at-spec : {M : Type 1} → statement M
 samples-at-spec =

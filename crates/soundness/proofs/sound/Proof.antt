@@ -13,6 +13,9 @@ use Rattle.soundness.proofs.sound.Tie as tie
 enum-told : tie.Need-enum-told
 enum-told c = search needs
 
+is-newer-requires : tie.Need-is-newer-requires
+is-newer-requires c κs = search needs
+
 enum-told-2 : tie.Need-enum-told-2
 enum-told-2 c = search needs
 
@@ -22,41 +25,55 @@ value-fits-requires c κs = search needs
 enum-told-3 : tie.Need-enum-told-3
 enum-told-3 c = search needs
 
+may-stall-requires : tie.Need-may-stall-requires
+may-stall-requires c κs = search needs
+
 value-fits-requires-2 : tie.Need-value-fits-requires-2
 value-fits-requires-2 c κs = search needs
+
+length-good-requires : tie.Need-length-good-requires
+length-good-requires c κs = search needs
 
 returns : tie.Need-returns
 unfolding soundSession
 returns c =
-    let b = c .before .before .before .before .before .before .before .before .before in
-    let s = b .before .before .args .session in
-    joined-every true (soundTests Rest s) ∙ ap (λ (p : Phase). every (soundTests p s)) (sym (b .enum-told .given .1))
+    let n = c .before .before .before .before .before .before .before .before .before .before in
+    let b = n .before in
+    let a = b .before .before .args in
+    rw (n .is-newer .ensures)
+    (joined-every true (soundTests (a .chip) Rest (a .session)) ∙ ap (λ (p : Phase). every (soundTests (a .chip) p (a .session))) (sym (b .enum-told .given .1)))
 
 returns-2 : tie.Need-returns-2
 unfolding soundSession
 returns-2 c =
-    let b = c .before .before .before .before .before in
-    let s = b .before .before .args .session in
-    rw (c .before .before .value-fits .ensures)
-    (joined-every true (soundTests Instruction s) ∙ ap (λ (p : Phase). every (soundTests p s)) (sym (b .enum-told2 .given .1)))
+    let v = c .before .before .before in
+    let b = v .before .before .before in
+    let a = b .before .before .args in
+    rw (v .value-fits .ensures)
+    (joined-every true (soundTests (a .chip) Instruction (a .session)) ∙ ap (λ (p : Phase). every (soundTests (a .chip) p (a .session))) (sym (b .enum-told2 .given .1)))
 
 returns-3 : tie.Need-returns-3
 unfolding soundSession
 returns-3 c =
-    let b = c .before .before .before .before in
-    let s = b .before .before .args .session in
-    rw (c .before .value-fits2 .ensures)
-    (joined-every true (soundTests Data s) ∙ ap (λ (p : Phase). every (soundTests p s)) (sym (b .enum-told3 .given .1)))
+    let v = c .before .before in
+    let m = v .before .before in
+    let b = m .before .before in
+    let a = b .before .before .args in
+    rw (c .length-good .ensures, v .value-fits2 .ensures, m .may-stall .ensures)
+    (joined-every true (soundTests (a .chip) Data (a .session)) ∙ ap (λ (p : Phase). every (soundTests (a .chip) p (a .session))) (sym (b .enum-told3 .given .1)))
 
 pub sound-spec : {M : Type 1} → statement M
 sound-spec =
     tie.close
     (tie.spec
     enum-told
+    is-newer-requires
     enum-told-2
     value-fits-requires
     enum-told-3
+    may-stall-requires
     value-fits-requires-2
+    length-good-requires
     returns
     returns-2
     returns-3)

@@ -12,7 +12,7 @@ line-of-requires : tie.Need-line-of-requires
 line-of-requires c κs = search needs
 
 gather-requires : tie.Need-gather-requires
-gather-requires c κs = (c .before .before .pre .clocked .within, rw (c .line-of .ensures) (line-lt (c .before .before .args .session)), omega arith)
+gather-requires c κs = (c .before .before .pre .clocked .within, rw (c .line-of .ensures) (line-lt (c .before .before .args .chip) (c .before .before .args .session)), omega arith)
 
 cast-byte : tie.Need-cast-byte
 cast-byte c =

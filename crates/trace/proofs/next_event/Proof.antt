@@ -11,13 +11,13 @@ use Rattle.trace.proofs.next_event.Statement.{statement}
 use Rattle.trace.proofs.next_event.Tie as tie
 
 abbrev Inv-loop : tie.InvT-loop
-Inv-loop samples from event₀ s₀ at₀ event s at = (event ≡ Nothing) × Scanned samples s₀ from s at
+Inv-loop chip samples from event₀ s₀ at₀ event s at = (event ≡ Nothing) × Scanned chip samples s₀ from s at
 
 abbrev μ-loop : tie.MeasureT-loop
-μ-loop samples from event₀ s₀ at₀ event s at = length samples - at
+μ-loop chip samples from event₀ s₀ at₀ event s at = length samples - at
 
 loop-holds : tie.Need-loop-holds Inv-loop μ-loop
-loop-holds c = (refl, scan-begun (c .before .pre .0) (omega arith))
+loop-holds c = (refl, scan-begun _ (c .before .pre .0) (omega arith))
 
 byte-ahead-requires : tie.Need-byte-ahead-requires Inv-loop μ-loop
 byte-ahead-requires c κs = c .before .loop .inv .1 .within
@@ -26,7 +26,7 @@ byte-event-requires : tie.Need-byte-event-requires Inv-loop μ-loop
 byte-event-requires c κs = c .before .byte-ahead .ensures (c .if1 .taken)
 
 next-address-requires : tie.Need-next-address-requires Inv-loop μ-loop
-next-address-requires c κs = fit-sound _ (c .before .before .before .before .loop .inv .1 .sound) .near
+next-address-requires c κs = fit-sound _ _ (c .before .before .before .before .loop .inv .1 .sound) .near
 
 add-at : tie.Need-add-at Inv-loop μ-loop
 add-at c = omega arith
@@ -38,20 +38,20 @@ shared-slice-read-x : tie.Need-shared-slice-read-x Inv-loop μ-loop
 shared-slice-read-x c = c .before .if2 .left
 
 event-requires : tie.Need-event-requires Inv-loop μ-loop
-event-requires c κs = fit-sound _ (c .before .before .before .quiet .ensures .apt .sound)
+event-requires c κs = fit-sound _ _ (c .before .before .before .quiet .ensures .apt .sound)
 
 step-requires : tie.Need-step-requires Inv-loop μ-loop
-step-requires c κs = fit-sound _ (c .before .before .before .before .quiet .ensures .apt .sound)
+step-requires c κs = fit-sound _ _ (c .before .before .before .before .quiet .ensures .apt .sound)
 
 add-at-2 : tie.Need-add-at-2 Inv-loop μ-loop
-add-at-2 c = omega arith
+add-at-2 c = omega (arith, c .before .before .before .before .before .before .before .before .before .before .before .good .1 .1 .0, c .before .before .before .if2 .left)
 
 happened-requires : tie.Need-happened-requires Inv-loop μ-loop
 happened-requires c κs = search needs
 
 returns : tie.Need-returns Inv-loop μ-loop
 returns c =
-    scan-event (scan-quiet (c .before .before .before .before .before .before .before .before .before .before .before .loop .inv .1) (c .before .before .before .before .before .before .before .quiet .ensures))
+    scan-event _ (scan-quiet _ (c .before .before .before .before .before .before .before .before .before .before .before .loop .inv .1) (c .before .before .before .before .before .before .before .quiet .ensures))
     _ _ (c .before .before .before .before .before .if2 .left) (c .before .before .step .ensures) (c .before .before .before .event .ensures)
 
 loop-less : tie.Need-loop-less Inv-loop μ-loop
@@ -61,21 +61,21 @@ loop-again : tie.Need-loop-again Inv-loop μ-loop
 loop-again c =
     let none = sym (c .before .happened .ensures) ∙ c .if3 .left in (
       quiet-event _ none,
-      scan-nothing (scan-quiet (c .before .before .before .before .before .before .before .before .before .before .before .loop .inv .1) (c .before .before .before .before .before .before .before .quiet .ensures))
+      scan-nothing _ (scan-quiet _ (c .before .before .before .before .before .before .before .before .before .before .before .loop .inv .1) (c .before .before .before .before .before .before .before .quiet .ensures))
           _ _ (c .before .before .before .before .before .if2 .left) (c .before .before .step .ensures) (c .before .before .before .event .ensures) none,
     )
 
 returns-2 : tie.Need-returns-2 Inv-loop μ-loop
-returns-2 c = scan-ended (c .before .loop .inv .1) _ (c .before .loop .inv .0) (c .before .before .before .pre .1) (c .loop-test .left)
+returns-2 c = scan-ended _ (c .before .loop .inv .1) _ (c .before .loop .inv .0) (c .before .before .before .pre .1) (c .loop-test .left)
 
 returns-3 : tie.Need-returns-3 Inv-loop μ-loop
 returns-3 c =
-    scan-byte (c .before .before .before .before .before .loop .inv .1) _ _ (c .before .before .before .byte-ahead .ensures (c .before .before .if1 .taken))
+    scan-byte _ (c .before .before .before .before .before .loop .inv .1) _ _ (c .before .before .before .byte-ahead .ensures (c .before .before .if1 .taken))
     (c .before .byte-event .ensures) (c .next-address .ensures)
 
 returns-4 : tie.Need-returns-4 Inv-loop μ-loop
 returns-4 c =
-    scan-ended (scan-quiet (c .before .before .before .before .before .before .loop .inv .1) (c .before .before .quiet .ensures)) _ (c .before .before .before .before .before .before .loop .inv .0)
+    scan-ended _ (scan-quiet _ (c .before .before .before .before .before .before .loop .inv .1) (c .before .before .quiet .ensures)) _ (c .before .before .before .before .before .before .loop .inv .0)
     (c .before .before .before .before .before .before .before .before .pre .1) (c .if2 .taken)
 
 pub next-event-spec : {M : Type 1} → statement M

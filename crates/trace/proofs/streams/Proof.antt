@@ -7,13 +7,16 @@ use Rattle.trace.proofs.Pieces.{last-data}
 use Rattle.trace.proofs.streams.Statement.{statement}
 use Rattle.trace.proofs.streams.Tie as tie
 
+is-newer-requires : tie.Need-is-newer-requires
+is-newer-requires c κs = search needs
+
 last-of-requires : tie.Need-last-of-requires
 last-of-requires c κs = search needs
 
 returns : tie.Need-returns
 returns c =
-    rw (c .before .before .before .before .before .last-of .ensures, last-data)
-    (joined-every true (streamTests (c .before .before .before .before .before .before .args .session)))
+    rw (c .before .before .before .before .before .before .is-newer .ensures, c .before .before .before .before .before .last-of .ensures, last-data)
+    (joined-every true (streamTests (c .before .before .before .before .before .before .before .args .chip) (c .before .before .before .before .before .before .before .args .session)))
 
 pub streams-spec : {M : Type 1} → statement M
-streams-spec = tie.close (tie.spec last-of-requires returns)
+streams-spec = tie.close (tie.spec is-newer-requires last-of-requires returns)

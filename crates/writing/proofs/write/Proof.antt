@@ -11,7 +11,7 @@ use Rattle.writing.proofs.write.Tie as tie
 abbrev effect-at : tie.After-effect-of → Effect
 effect-at c =
     let a = c .before .before .before .before .before .before .before .before .args in
-    effectAt (a .map .now) (banks (a .active .now) (a .buffer .now)) (a .address) (a .v)
+    effectAt (a .chip) (a .map .now) (banks (a .active .now) (a .buffer .now)) (a .address) (a .v)
 
 decided : (c : tie.After-effect-of) → c .effect-of .result ≡ effect-at c
 decided c =
@@ -32,13 +32,13 @@ apply-requires : tie.Need-apply-requires
 apply-requires c κs =
     let at = c .before .before in
     let mapped = at .before .before .before .before .before .before .before .before .pre in
-    (mapped, λ t. effect-within mapped _ _ _ (sym (ap onByte (decided at)) ∙ t))
+    (mapped, λ t. effect-within _ mapped _ _ _ (sym (ap onByte (decided at)) ∙ t))
 
 same-length : tie.Need-same-length
-same-length c = c .before .before .before .before .apply .kept .1 .0
+same-length c = c .before .before .before .before .apply .kept .1 .1 .0
 
 same-length-2 : tie.Need-same-length-2
-same-length-2 c = c .before .before .before .before .apply .kept .1 .1 .0
+same-length-2 c = c .before .before .before .before .apply .kept .1 .1 .1 .0
 
 returns : tie.Need-returns
 unfolding writeBanks

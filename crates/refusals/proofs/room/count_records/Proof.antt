@@ -19,7 +19,7 @@ slice-aggregate-run-samples-4 c = search needs
 run-samples-requires : tie.Need-run-samples-requires
 run-samples-requires c κs =
     let p = c .before .before .before .before .before .pre in
-    ready-to-count _ _ _ _ (p .0) (p .1)
+    ready-to-count _ _ _ _ _ (p .0) (p .1)
 
 returns : tie.Need-returns
 returns c = search needs

@@ -12,6 +12,8 @@ use lib.ListN.{getD}
 use lib.Dec.{eqb}
 use Rattle.bits.proofs.Cases.{yes, no}
 use Rattle.regmap.specs.Format.{registerAt, blank, buffered, control}
+use Rattle.chip.specs.declared.Chip.{Chip}
+use Rattle.chip.specs.Chip.{readsBuffer}
 use Rattle.settings.specs.declared.Settings.{Settings}
 use Rattle.registers.specs.Banks.{Banks}
 use Rattle.registers.specs.Read.{dueByte}
@@ -23,12 +25,12 @@ kind-is : (c : tie.After-entry-at)
     → let a = c .before .before .before .before .args in registerAt (a .map .now) (a .address) .kind ≡ c .entry-at .result .kind
 kind-is c = rw (c .entry-at .ensures, c .before .before .before .before .pre .active-size)
 
-module _ (m : List ℕ) (b : Banks) (t : Settings) (a k : ℕ) (is : registerAt m a .kind ≡ k) (no-blank : k ≢ blank) (no-control : k ≢ control) where
-  waits : (eqb k buffered && t .readback) ≡ true → getD (b .buffer) a 0 ≡ dueByte m b t a
+module _ (k' : Chip) (m : List ℕ) (b : Banks) (t : Settings) (a k : ℕ) (is : registerAt m a .kind ≡ k) (no-blank : k ≢ blank) (no-control : k ≢ control) where
+  waits : (eqb k buffered && (t .readback && readsBuffer k')) ≡ true → getD (b .buffer) a 0 ≡ dueByte k' m b t a
   unfolding dueByte
   waits h = rw (is, ne-eqb k blank no-blank, ne-eqb k control no-control) (yes _ h refl)
 
-  in-force : (eqb k buffered && t .readback) ≡ false → getD (b .active) a 0 ≡ dueByte m b t a
+  in-force : (eqb k buffered && (t .readback && readsBuffer k')) ≡ false → getD (b .active) a 0 ≡ dueByte k' m b t a
   unfolding dueByte
   in-force h = rw (is, ne-eqb k blank no-blank, ne-eqb k control no-control) (no _ h refl)
 
@@ -47,25 +49,28 @@ unfolding dueByte
 returns-2 c =
     rw (kind-is (c .before .before .before), ne-eqb _ _ (c .before .before .if1 .left), eq-eqb _ _ (c .before .if2 .taken)) (c .reading .ensures)
 
+reads-buffer-requires : tie.Need-reads-buffer-requires
+reads-buffer-requires c κs = search needs
+
 shared-slice-read-result : tie.Need-shared-slice-read-result
 shared-slice-read-result c =
-    let at = c .before .before .before .before in
+    let at = c .before .before .before .before .before in
     omega (arith, in-banks (at .before .before .before .before .before .pre) (kind-is (at .before)) (at .if1 .left))
 
 returns-3 : tie.Need-returns-3
 returns-3 c =
-    let at = c .before .before .before in
-    waits _ _ _ _ _ (kind-is (at .before .before)) (at .before .if1 .left) (at .if2 .left) (c .before .if3 .taken)
+    let at = c .before .before .before .before in
+    waits _ _ _ _ _ _ (kind-is (at .before .before)) (at .before .if1 .left) (at .if2 .left) (rw (c .before .before .before .reads-buffer .ensures) at (c .before .if3 .taken))
 
 shared-slice-read-result-2 : tie.Need-shared-slice-read-result-2
 shared-slice-read-result-2 c =
-    let at = c .before .before .before .before in
+    let at = c .before .before .before .before .before in
     omega (arith, in-banks (at .before .before .before .before .before .pre) (kind-is (at .before)) (at .if1 .left))
 
 returns-4 : tie.Need-returns-4
 returns-4 c =
-    let at = c .before .before .before in
-    in-force _ _ _ _ _ (kind-is (at .before .before)) (at .before .if1 .left) (at .if2 .left) (c .before .if3 .left)
+    let at = c .before .before .before .before in
+    in-force _ _ _ _ _ _ (kind-is (at .before .before)) (at .before .if1 .left) (at .if2 .left) (rw (c .before .before .before .reads-buffer .ensures) at (c .before .if3 .left))
 
 pub due-byte-spec : {M : Type 1} → statement M
 due-byte-spec =
@@ -75,6 +80,7 @@ due-byte-spec =
     returns
     reading-requires
     returns-2
+    reads-buffer-requires
     shared-slice-read-result
     returns-3
     shared-slice-read-result-2

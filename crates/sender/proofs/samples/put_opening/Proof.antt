@@ -28,7 +28,7 @@ put-sixteen-requires c κs =
     let p = c .before .before in
     let a = p .before .before .args in
     let room = rw (p .if1 .left) at (p .before .before .pre .1) in
-    let bits : length (clocked (bitsOf (a .run .lsb) 16 (instructionOf (a .run .read) (a .start)))) ≡ 32 = simp (length-clocked, length-bits) in
+    let bits : length (clocked (bitsOf (a .run .lsb) 16 (instructionOf (a .run .read) (a .lower)))) ≡ 32 = simp (length-clocked, length-bits) in
     simp length-set (omega arith)
 
 same-length-2 : tie.Need-same-length-2

@@ -6,11 +6,14 @@ use native.Mathlib.Omega.{arith}
 use lib.Dec.{eqb, ltb}
 use borrow.Author.Tests.{not-false}
 use Rattle.bits.proofs.Cases.{yes, no, or-left}
+use Rattle.chip.specs.declared.Chip.{Chip}
+use Rattle.settings.specs.declared.InUse.{InUse}
 use Rattle.session.specs.declared.Session.{Session}
 use Rattle.session.specs.declared.Event.{Event}
 use Rattle.session.specs.declared.Event.the-variants.{Nothing, Whole, Aborted}
-use Rattle.session.specs.Step.{csbOf, csbRises, takesBit, valueWith, dataLine}
-use Rattle.session.specs.Event.{isData, bitEvent, abortEvent, eventOf}
+use Rattle.session.specs.Step.{sdioOf, sdoOf, csbOf, csbRises, takesBit, valueWith, dataLine}
+use Rattle.session.specs.State.{isData}
+use Rattle.session.specs.Event.{bitEvent, abortEvent, eventOf}
 use Rattle.session.proofs.Laws.{byte-lt, room-for-bit}
 use borrow.Author.Needs.{needs}
 use Rattle.session.proofs.Session.event.Statement.{statement}
@@ -22,19 +25,19 @@ joined true b e = refl
 joined false b e = refl
 
 -- the event of s, by whether it takes a bit, whether that is data, and the level of CSB
-abbrev eventBy : Session → ℕ → Bool → Bool → Bool → Event
-eventBy s x takes in-data csb =
+abbrev eventBy : Chip → Session → ℕ → Bool → Bool → Bool → Event
+eventBy k s x takes in-data csb =
     cond takes
-    (cond (not in-data || ltb (s .bits) 7) Nothing (Whole (s .read) (s .address) (valueWith s (dataLine s x))))
+    (cond (not in-data || ltb (s .bits) 7) Nothing (Whole (s .read) (s .address) (valueWith s (dataLine k s x))))
     (cond (not (not (s .csb) && csb) || eqb (s .bits) 0) Nothing (Aborted (s .address) (s .bits) in-data))
 
-event-by : (s : Session) (x : ℕ) {takes in-data csb : Bool} → takes ≡ takesBit s x → in-data ≡ isData (s .phase) → csb ≡ csbOf x
-    → eventBy s x takes in-data csb ≡ eventOf s x
+event-by : (k : Chip) (s : Session) (x : ℕ) {takes in-data csb : Bool} → takes ≡ takesBit s x → in-data ≡ isData (s .phase) → csb ≡ csbOf x
+    → eventBy k s x takes in-data csb ≡ eventOf k s x
 unfolding eventOf bitEvent abortEvent
-event-by s x d e f =
-    (λ i. eventBy s x (d i) (e i) (f i))
+event-by k s x d e f =
+    (λ i. eventBy k s x (d i) (e i) (f i))
     ∙ (λ i. cond (takesBit s x)
-    (joined (isData (s .phase)) (ltb (s .bits) 7) (Whole (s .read) (s .address) (valueWith s (dataLine s x))) i)
+    (joined (isData (s .phase)) (ltb (s .bits) 7) (Whole (s .read) (s .address) (valueWith s (dataLine k s x))) i)
     (joined (csbRises s x) (eqb (s .bits) 0) (Aborted (s .address) (s .bits) (isData (s .phase))) i))
 
 is-data-requires : tie.Need-is-data-requires
@@ -48,30 +51,34 @@ returns c =
     let b = c .before .before .before in
     let a = b .before .before .args in
     yes _ (c .before .before .if1 .taken) (yes _ (c .if2 .taken) refl)
-    ∙ event-by (a .self) (a .sample) (b .takes-bit .ensures) (b .before .is-data .ensures) refl
+    ∙ event-by (a .chip) (a .self) (a .sample) (b .takes-bit .ensures) (b .before .is-data .ensures) refl
+
+counting-requires : tie.Need-counting-requires
+counting-requires c κs = search needs
 
 data-line-requires : tie.Need-data-line-requires
 data-line-requires c κs = search needs
 
 shift-in-requires : tie.Need-shift-in-requires
 shift-in-requires c κs =
-    let b = c .before .before .before .before .before .before in
+    let b = c .before .before .before .before .before .before .before .before in
     room-for-bit (b .args .self) (b .pre)
 
-cast-t12 : tie.Need-cast-t12
-cast-t12 c =
-    let b = c .before .before .before .before .before .before in
-    let d = sym (b .is-data .ensures) ∙ not-false _ (or-left _ _ (c .before .before .if2 .left)) in
+cast-t15 : tie.Need-cast-t15
+cast-t15 c =
+    let b = c .before .before .before .before .before .before .before .before in
+    let d = sym (b .is-data .ensures) ∙ not-false _ (or-left _ _ (c .before .before .before .before .if2 .left)) in
     omega (arith, c .shift-in .ensures, byte-lt (b .before .args .self) (c .before .data-line .result) (b .before .pre) d)
 
 returns-2 : tie.Need-returns-2
 returns-2 c =
-    let b = c .before .before .before .before .before in
+    let b = c .before .before .before .before .before .before .before in
     let a = b .before .before .args in
-    let v = c .shift-in .ensures ∙ ap (valueWith (a .self)) (c .before .data-line .ensures) in
-    yes _ (c .before .before .before .before .if1 .taken)
-    (no _ (c .before .before .if2 .left) (ap (Whole (a .self .read) (a .self .address)) v))
-    ∙ event-by (a .self) (a .sample) (b .takes-bit .ensures) (b .before .is-data .ensures) refl
+    let l = c .before .data-line .ensures ∙ ap (λ (u : InUse). cond (a .self .read && u .sdo) (sdoOf (a .sample)) (sdioOf (a .sample))) (c .before .before .counting .ensures) in
+    let v = c .shift-in .ensures ∙ ap (valueWith (a .self)) l in
+    yes _ (c .before .before .before .before .before .before .if1 .taken)
+    (no _ (c .before .before .before .before .if2 .left) (ap (Whole (a .self .read) (a .self .address)) v))
+    ∙ event-by (a .chip) (a .self) (a .sample) (b .takes-bit .ensures) (b .before .is-data .ensures) refl
 
 bit-at-requires : tie.Need-bit-at-requires
 bit-at-requires c κs = search needs
@@ -81,14 +88,14 @@ returns-3 c =
     let b = c .before .before .before .before .before in
     let a = b .before .before .args in
     no _ (c .before .before .before .before .if1 .left) (yes _ (c .if3 .taken) refl)
-    ∙ event-by (a .self) (a .sample) (b .takes-bit .ensures) (b .before .is-data .ensures) (c .before .before .bit-at .ensures)
+    ∙ event-by (a .chip) (a .self) (a .sample) (b .takes-bit .ensures) (b .before .is-data .ensures) (c .before .before .bit-at .ensures)
 
 returns-4 : tie.Need-returns-4
 returns-4 c =
     let b = c .before .before .before .before .before in
     let a = b .before .before .args in
     no _ (c .before .before .before .before .if1 .left) (no _ (c .if3 .left) refl)
-    ∙ event-by (a .self) (a .sample) (b .takes-bit .ensures) (b .before .is-data .ensures) (c .before .before .bit-at .ensures)
+    ∙ event-by (a .chip) (a .self) (a .sample) (b .takes-bit .ensures) (b .before .is-data .ensures) (c .before .before .bit-at .ensures)
 
 pub event-spec : {M : Type 1} → statement M
 event-spec =
@@ -97,9 +104,10 @@ event-spec =
     is-data-requires
     takes-bit-requires
     returns
+    counting-requires
     data-line-requires
     shift-in-requires
-    cast-t12
+    cast-t15
     returns-2
     bit-at-requires
     returns-3

@@ -1,12 +1,15 @@
 -- `Session::step` meets its contract: the definition's tests in its order, on a session that has the sample's levels already.
 use Prim.Native.Nat.{ℕ}
+use lib.Dec.{eqb}
 use mathlib.Core.Bool.{Bool, cond, not, _&&_}
 use mathlib.Core.Path.{_≡_, refl, ap, sym, _∙_}
 use Rattle.bits.proofs.Cases.{yes, no}
+use Rattle.chip.specs.declared.Chip.{Chip}
+use Rattle.settings.specs.declared.InUse.{InUse}
 use Rattle.session.specs.declared.Phase.{Phase}
 use Rattle.session.specs.declared.Session.{Session}
-use Rattle.session.specs.State.{resting, starting, withLevels}
-use Rattle.session.specs.Step.{csbOf, sclkOf, takesBit, withInstructionBit, withDataBit, withBit, stepOf}
+use Rattle.session.specs.State.{resting, starting, withLevels, isData, mayStall}
+use Rattle.session.specs.Step.{csbOf, sclkOf, sdioOf, sdoOf, takesBit, withInstructionBit, withDataBit, withBit, stepOf}
 use borrow.Author.Needs.{needs}
 use Rattle.session.proofs.Session.step.Statement.{statement}
 use Rattle.session.proofs.Session.step.Tie as tie
@@ -21,22 +24,23 @@ leveled s csb sclk = record {
   value = s .value;
   address = s .address;
   read = s .read;
+  left = s .left;
   settings = s .settings;
   used = s .used;
 }
 
--- the step of s, by whether it takes a bit and by the levels of its sample
-abbrev stepBy : Session → ℕ → Bool → Bool → Bool → Session
-stepBy s x takes csb sclk =
-    cond (s .csb && not csb) (starting sclk (s .settings))
-    (cond takes (withBit (s .phase) s x)
-    (cond (not (s .csb) && csb) (resting sclk (s .settings))
+-- the step of s, by whether it takes a bit, the levels of its sample, and whether s may stall
+abbrev stepBy : Chip → Session → ℕ → Bool → Bool → Bool → Bool → Session
+stepBy k s x takes csb sclk stalls =
+    cond ((s .csb && not csb) && eqb (s .left) 0) (starting sclk (s .settings))
+    (cond takes (withBit k (s .phase) s x)
+    (cond ((not (s .csb) && csb) && not stalls) (resting sclk (s .settings))
     (leveled s csb sclk)))
 
-step-by : (s : Session) (x : ℕ) {takes csb sclk : Bool} → takes ≡ takesBit s x → csb ≡ csbOf x → sclk ≡ sclkOf x
-    → stepBy s x takes csb sclk ≡ stepOf s x
+step-by : (k : Chip) (s : Session) (x : ℕ) {takes csb sclk stalls : Bool} → takes ≡ takesBit s x → csb ≡ csbOf x → sclk ≡ sclkOf x
+    → stalls ≡ mayStall s → stepBy k s x takes csb sclk stalls ≡ stepOf k s x
 unfolding stepOf
-step-by s x d e f = λ i. stepBy s x (d i) (e i) (f i)
+step-by k s x d e f h = λ i. stepBy k s x (d i) (e i) (f i) (h i)
 
 takes-bit-requires : tie.Need-takes-bit-requires
 takes-bit-requires c κs = search needs
@@ -52,25 +56,19 @@ starting-requires c κs = search needs
 
 returns : tie.Need-returns
 returns c =
-    let b = c .before .before .before .before in
-    yes _ (c .before .if1 .taken) (c .starting .ensures)
-    ∙ step-by _ _ (b .before .before .takes-bit .ensures) (b .before .bit-at .ensures) (b .bit-at2 .ensures)
+    let b = c .before .before .before .before .before .before .before in
+    let a = b .before .args in
+    yes _ (c .before .if1 .taken) (c .starting .ensures) ∙ step-by (a .chip) (a .self) (a .sample) (b .takes-bit .ensures) (c .before .before .before .before .before .before .bit-at .ensures) (c .before .before .before .before .before .bit-at2 .ensures) refl
 
 enum-told : tie.Need-enum-told
 enum-told c = search needs
 
 returns-2 : tie.Need-returns-2
 returns-2 c =
-    let b = c .before .before .before .before .before .before in
-    let a = b .before .before .before .args in
-    let e = b .before .bit-at .ensures in
-    let f = b .bit-at2 .ensures in
-    let l : leveled (a .self) (b .before .bit-at .result) (b .bit-at2 .result) ≡ withLevels (a .self) (a .sample) =
-    λ i. leveled (a .self) (e i) (f i) in
-    no _ (c .before .before .before .if1 .left)
-    (yes _ (c .before .before .if2 .taken)
-    (l ∙ ap (λ (p : Phase). withBit p (a .self) (a .sample)) (sym (c .enum-told .given .1))))
-    ∙ step-by _ _ (b .before .before .takes-bit .ensures) e f
+    let b = c .before .before .before .before .before .before .before .before .before in
+    let a = b .before .args in
+    let v : leveled (a .self) (c .before .before .before .before .before .before .before .before .bit-at .result) (c .before .before .before .before .before .before .before .bit-at2 .result) ≡ withLevels (a .self) (a .sample) = λ i. leveled (a .self) (c .before .before .before .before .before .before .before .before .bit-at .ensures i) (c .before .before .before .before .before .before .before .bit-at2 .ensures i) in
+    no _ (c .before .before .before .if1 .left) (yes _ (c .before .before .if2 .taken) (v ∙ ap (λ (p : Phase). withBit (a .chip) p (a .self) (a .sample)) (sym (c .enum-told .given .1)))) ∙ step-by (a .chip) (a .self) (a .sample) (b .takes-bit .ensures) (c .before .before .before .before .before .before .before .before .bit-at .ensures) (c .before .before .before .before .before .before .before .bit-at2 .ensures) refl
 
 enum-told-2 : tie.Need-enum-told-2
 enum-told-2 c = search needs
@@ -84,17 +82,15 @@ with-instruction-bit-requires c κs = search needs
 returns-3 : tie.Need-returns-3
 unfolding withInstructionBit
 returns-3 c =
-    let b = c .before .before .before .before .before .before .before .before in
-    let a = b .before .before .before .args in
-    no _ (c .before .before .before .before .before .if1 .left)
-    (yes _ (c .before .before .before .before .if2 .taken)
-    (c .with-instruction-bit .ensures
-    ∙ ap (withInstructionBit (a .self)) (c .before .bit-at3 .ensures)
-    ∙ ap (λ (p : Phase). withBit p (a .self) (a .sample)) (sym (c .before .before .enum-told2 .given .1))))
-    ∙ step-by _ _ (b .before .before .takes-bit .ensures) (b .before .bit-at .ensures) (b .bit-at2 .ensures)
+    let b = c .before .before .before .before .before .before .before .before .before .before .before in
+    let a = b .before .args in
+    no _ (c .before .before .before .before .before .if1 .left) (yes _ (c .before .before .before .before .if2 .taken) (c .with-instruction-bit .ensures ∙ ap (withInstructionBit (a .chip) (a .self)) (c .before .bit-at3 .ensures) ∙ ap (λ (p : Phase). withBit (a .chip) p (a .self) (a .sample)) (sym (c .before .before .enum-told2 .given .1)))) ∙ step-by (a .chip) (a .self) (a .sample) (b .takes-bit .ensures) (c .before .before .before .before .before .before .before .before .before .before .bit-at .ensures) (c .before .before .before .before .before .before .before .before .before .bit-at2 .ensures) refl
 
 enum-told-3 : tie.Need-enum-told-3
 enum-told-3 c = search needs
+
+counting-requires : tie.Need-counting-requires
+counting-requires c κs = search needs
 
 data-line-requires : tie.Need-data-line-requires
 data-line-requires c κs = search needs
@@ -105,33 +101,28 @@ with-data-bit-requires c κs = search needs
 returns-4 : tie.Need-returns-4
 unfolding withDataBit
 returns-4 c =
-    let b = c .before .before .before .before .before .before .before .before in
-    let a = b .before .before .before .args in
-    no _ (c .before .before .before .before .before .if1 .left)
-    (yes _ (c .before .before .before .before .if2 .taken)
-    (c .with-data-bit .ensures
-    ∙ ap (withDataBit (a .self)) (c .before .data-line .ensures)
-    ∙ ap (λ (p : Phase). withBit p (a .self) (a .sample)) (sym (c .before .before .enum-told3 .given .1))))
-    ∙ step-by _ _ (b .before .before .takes-bit .ensures) (b .before .bit-at .ensures) (b .bit-at2 .ensures)
+    let b = c .before .before .before .before .before .before .before .before .before .before .before .before .before in
+    let a = b .before .args in
+    let e = c .before .data-line .ensures ∙ ap (λ (u : InUse). cond (a .self .read && u .sdo) (sdoOf (a .sample)) (sdioOf (a .sample))) (c .before .before .counting .ensures) in
+    no _ (c .before .before .before .before .before .before .before .if1 .left) (yes _ (c .before .before .before .before .before .before .if2 .taken) (c .with-data-bit .ensures ∙ ap (withDataBit (a .chip) (a .self)) e ∙ ap (λ (p : Phase). withBit (a .chip) p (a .self) (a .sample)) (sym (c .before .before .before .before .enum-told3 .given .1)))) ∙ step-by (a .chip) (a .self) (a .sample) (b .takes-bit .ensures) (c .before .before .before .before .before .before .before .before .before .before .before .before .bit-at .ensures) (c .before .before .before .before .before .before .before .before .before .before .before .bit-at2 .ensures) refl
+
+may-stall-requires : tie.Need-may-stall-requires
+may-stall-requires c κs = search needs
 
 resting-requires : tie.Need-resting-requires
 resting-requires c κs = search needs
 
 returns-5 : tie.Need-returns-5
 returns-5 c =
-    let b = c .before .before .before .before .before .before .before in
-    no _ (c .before .before .before .before .if1 .left)
-    (no _ (c .before .before .before .if2 .left)
-    (yes _ (c .before .if3 .taken) (c .resting .ensures)))
-    ∙ step-by _ _ (b .before .before .takes-bit .ensures) (b .before .bit-at .ensures) (b .bit-at2 .ensures)
+    let b = c .before .before .before .before .before .before .before .before .before .before .before in
+    let a = b .before .args in
+    no _ (c .before .before .before .before .before .if1 .left) (no _ (c .before .before .before .before .if2 .left) (yes _ (c .before .if3 .taken) (c .resting .ensures))) ∙ step-by (a .chip) (a .self) (a .sample) (b .takes-bit .ensures) (c .before .before .before .before .before .before .before .before .before .before .bit-at .ensures) (c .before .before .before .before .before .before .before .before .before .bit-at2 .ensures) (c .before .before .may-stall .ensures)
 
 returns-6 : tie.Need-returns-6
 returns-6 c =
-    let b = c .before .before .before .before .before .before in
-    no _ (c .before .before .before .if1 .left)
-    (no _ (c .before .before .if2 .left)
-    (no _ (c .if3 .left) refl))
-    ∙ step-by _ _ (b .before .before .takes-bit .ensures) (b .before .bit-at .ensures) (b .bit-at2 .ensures)
+    let b = c .before .before .before .before .before .before .before .before .before .before in
+    let a = b .before .args in
+    no _ (c .before .before .before .before .if1 .left) (no _ (c .before .before .before .if2 .left) (no _ (c .if3 .left) refl)) ∙ step-by (a .chip) (a .self) (a .sample) (b .takes-bit .ensures) (c .before .before .before .before .before .before .before .before .before .bit-at .ensures) (c .before .before .before .before .before .before .before .before .bit-at2 .ensures) (c .before .may-stall .ensures)
 
 pub step-spec : {M : Type 1} → statement M
 step-spec =
@@ -149,9 +140,11 @@ step-spec =
     with-instruction-bit-requires
     returns-3
     enum-told-3
+    counting-requires
     data-line-requires
     with-data-bit-requires
     returns-4
+    may-stall-requires
     resting-requires
     returns-5
     returns-6)

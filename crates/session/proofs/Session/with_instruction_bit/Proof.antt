@@ -1,27 +1,28 @@
 -- `Session::with_instruction_bit` meets its contract: the sixteenth bit makes the instruction whole.
-use Prim.Native.Nat.{ℕ, _+_, _%_}
+use Prim.Native.Nat.{ℕ, _+_}
 use mathlib.Core.Bool.{Bool, true, cond}
 use mathlib.Core.Path.{_≡_, ap, _∙_}
-use lib.Dec.{ltb, leb}
+use lib.Dec.{ltb}
 use borrow.Author.Tests.{lt-ltb, le-ltb}
 use Rattle.bits.proofs.Cases.{yes, no}
+use Rattle.chip.specs.declared.Chip.{Chip}
 use Rattle.session.specs.declared.Session.{Session}
-use Rattle.session.specs.State.{instructing, inData}
-use Rattle.session.specs.Step.{valueWith, withInstructionBit}
+use Rattle.session.specs.State.{instructing}
+use Rattle.session.specs.Step.{valueWith, entered, withInstructionBit}
 use Rattle.session.proofs.Laws.{room-for-bit}
 use borrow.Author.Needs.{needs}
 use Rattle.session.proofs.Session.with_instruction_bit.Statement.{statement}
 use Rattle.session.proofs.Session.with_instruction_bit.Tie as tie
 
 -- s with one more bit, by the value that it makes
-abbrev bitBy : Session → ℕ → Session
-bitBy s v =
+abbrev bitBy : Chip → Session → ℕ → Session
+bitBy k s v =
     cond (ltb (s .bits) 15) (instructing true (s .bits + 1) v (s .settings) (s .used))
-    (inData true 0 0 (v % 0x8000) (leb 0x8000 v) (s .settings) (s .used))
+    (entered k v (s .settings) (s .used))
 
-bit-by : (s : Session) (b : Bool) {v : ℕ} → v ≡ valueWith s b → bitBy s v ≡ withInstructionBit s b
+bit-by : (k : Chip) (s : Session) (b : Bool) {v : ℕ} → v ≡ valueWith s b → bitBy k s v ≡ withInstructionBit k s b
 unfolding withInstructionBit
-bit-by s b e = ap (bitBy s) e
+bit-by k s b e = ap (bitBy k s) e
 
 shift-in-requires : tie.Need-shift-in-requires
 shift-in-requires c κs = room-for-bit (c .args .self) (c .pre)
@@ -35,15 +36,15 @@ instructing-requires c κs = search needs
 returns : tie.Need-returns
 returns c =
     yes _ (lt-ltb _ _ (c .before .before .if1 .taken)) (c .instructing .ensures)
-    ∙ bit-by _ _ (c .before .before .before .before .before .before .shift-in .ensures)
+    ∙ bit-by _ _ _ (c .before .before .before .before .before .before .shift-in .ensures)
 
-in-data-requires : tie.Need-in-data-requires
-in-data-requires c κs = search needs
+entered-requires : tie.Need-entered-requires
+entered-requires c κs = search needs
 
 returns-2 : tie.Need-returns-2
 returns-2 c =
-    no _ (le-ltb _ _ (c .before .if1 .left)) (c .in-data .ensures)
-    ∙ bit-by _ _ (c .before .before .before .before .before .shift-in .ensures)
+    no _ (le-ltb _ _ (c .before .if1 .left)) (c .entered .ensures)
+    ∙ bit-by _ _ _ (c .before .before .before .before .before .shift-in .ensures)
 
 pub with-instruction-bit-spec : {M : Type 1} → statement M
 with-instruction-bit-spec =
@@ -53,5 +54,5 @@ with-instruction-bit-spec =
     add-instructing
     instructing-requires
     returns
-    in-data-requires
+    entered-requires
     returns-2)

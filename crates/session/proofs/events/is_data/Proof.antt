@@ -1,6 +1,6 @@
 -- `is_data` meets its contract: by the phase.
 use mathlib.Core.Path.{ap, sym}
-use Rattle.session.specs.Event.{isData}
+use Rattle.session.specs.State.{isData}
 use borrow.Author.Needs.{needs}
 use Rattle.session.proofs.events.is_data.Statement.{statement}
 use Rattle.session.proofs.events.is_data.Tie as tie

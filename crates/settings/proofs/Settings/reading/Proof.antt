@@ -1,74 +1,36 @@
--- `Settings::reading` meets its contract: the flags of one register are at most 0xA0 together, and their sum is the reading.
-use Prim.Native.Nat.{_+_}
-use mathlib.Core.Path.{refl}
-use native.Mathlib.Omega.{arith}
-use borrow.Author.Tests.{eq-eqb, ne-eqb}
-use Rattle.bits.proofs.Cases.{yes, no}
+-- `Settings::reading` meets its contract: by the chip.
+use mathlib.Core.Path.{_≡_, refl, ap, sym, _∙_}
+use Rattle.chip.specs.declared.Chip.{Chip}
 use Rattle.settings.specs.Settings.{controlReading}
-use Rattle.settings.proofs.Laws.{flag-le}
 use borrow.Author.Needs.{needs}
 use Rattle.settings.proofs.Settings.reading.Statement.{statement}
 use Rattle.settings.proofs.Settings.reading.Tie as tie
 
-flag-requires : tie.Need-flag-requires
-flag-requires c κs = search needs
+enum-told : tie.Need-enum-told
+enum-told c = search needs
 
-flag-requires-2 : tie.Need-flag-requires-2
-flag-requires-2 c κs = search needs
+reading-newer-requires : tie.Need-reading-newer-requires
+reading-newer-requires c κs = search needs
 
-add-result : tie.Need-add-result
-add-result c =
-    let t = c .before .before .before .args .self in
-    omega (arith, flag-le (t .lsb) 0x42, flag-le (t .ascending) 0x24)
+enum-told-2 : tie.Need-enum-told-2
+enum-told-2 c = search needs
 
-flag-requires-3 : tie.Need-flag-requires-3
-flag-requires-3 c κs = search needs
-
-add-result-2 : tie.Need-add-result-2
-add-result-2 c =
-    let t = c .before .before .before .before .args .self in
-    omega (arith, flag-le (t .lsb) 0x42, flag-le (t .ascending) 0x24, flag-le (t .sdo) 0x18)
+reading-older-requires : tie.Need-reading-older-requires
+reading-older-requires c κs = search needs
 
 returns : tie.Need-returns
-unfolding controlReading
-returns c =
-    yes _ (eq-eqb _ _ (c .before .before .before .if1 .taken))
-    (λ i. c .before .before .flag .ensures i + c .before .flag2 .ensures i + c .flag3 .ensures i)
-
-flag-requires-4 : tie.Need-flag-requires-4
-flag-requires-4 c κs = search needs
-
-flag-requires-5 : tie.Need-flag-requires-5
-flag-requires-5 c κs = search needs
-
-add-result-3 : tie.Need-add-result-3
-add-result-3 c =
-    let t = c .before .before .before .before .args .self in
-    omega (arith, flag-le (t .single) 0x80, flag-le (t .readback) 0x20)
+returns c = c .reading-newer .ensures ∙ ap (λ (k : Chip). controlReading k (c .before .before .before .args .self) (c .before .before .before .args .address)) (sym (c .before .enum-told .given .1))
 
 returns-2 : tie.Need-returns-2
-unfolding controlReading
-returns-2 c =
-    no _ (ne-eqb _ _ (c .before .before .before .if1 .left))
-    (yes _ (eq-eqb _ _ (c .before .before .if2 .taken))
-    (λ i. c .before .flag4 .ensures i + c .flag5 .ensures i))
-
-returns-3 : tie.Need-returns-3
-unfolding controlReading
-returns-3 c = no _ (ne-eqb _ _ (c .before .if1 .left)) (no _ (ne-eqb _ _ (c .if2 .left)) refl)
+returns-2 c = c .reading-older .ensures ∙ ap (λ (k : Chip). controlReading k (c .before .before .before .args .self) (c .before .before .before .args .address)) (sym (c .before .enum-told2 .given .1))
 
 pub reading-spec : {M : Type 1} → statement M
 reading-spec =
     tie.close
     (tie.spec
-    flag-requires
-    flag-requires-2
-    add-result
-    flag-requires-3
-    add-result-2
+    enum-told
+    reading-newer-requires
+    enum-told-2
+    reading-older-requires
     returns
-    flag-requires-4
-    flag-requires-5
-    add-result-3
-    returns-2
-    returns-3)
+    returns-2)

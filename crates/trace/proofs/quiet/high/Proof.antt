@@ -1,9 +1,12 @@
 -- `high` meets its contract: at rest only the level of SCLK changes, to that of the last sample.
 use borrow.Author.Needs.{needs}
 use Prim.Native.Nat.{_-_}
-use mathlib.Core.Path.{refl}
+use mathlib.Core.Path.{_≡_, refl}
+use mathlib.Core.Bool.{true}
 use native.Mathlib.Omega.{arith}
 use lib.ListN.{length}
+use Rattle.chip.specs.declared.Chip.{Chip}
+use Rattle.session.specs.State.{soundSession}
 use Rattle.trace.specs.Piece.{Reached}
 use Rattle.words.proofs.Masks.{last-high}
 use Rattle.trace.proofs.Pieces.{piece, own, past-high}
@@ -11,7 +14,7 @@ use Rattle.trace.proofs.quiet.high.Statement.{statement}
 use Rattle.trace.proofs.quiet.high.Tie as tie
 
 abbrev Inv-loop : tie.InvT-loop
-Inv-loop session samples from level₀ at₀ level at = Reached samples session from (piece level (session .bits) (session .value) at)
+Inv-loop session samples from level₀ at₀ level at = (k : Chip) → soundSession k session ≡ true → Reached k samples session from (piece level (session .bits) (session .value) at)
 
 abbrev μ-loop : tie.MeasureT-loop
 μ-loop session samples from level₀ at₀ level at = length samples - at
@@ -22,7 +25,7 @@ level-of-requires c κs = search needs
 loop-holds : tie.Need-loop-holds Inv-loop μ-loop
 loop-holds c =
     let a = c .before .before .pre in
-    own _ (a .1) (a .2) (c .level-of .ensures) refl refl
+    λ k h. own k _ h (a .2) (c .level-of .ensures) refl refl
 
 past-same-requires : tie.Need-past-same-requires Inv-loop μ-loop
 past-same-requires c κs = c .loop-test .taken
@@ -41,14 +44,14 @@ loop-less c = omega (arith, c .before .before .past-same .ensures .ahead, c .bef
 
 loop-again : tie.Need-loop-again Inv-loop μ-loop
 loop-again c =
-    past-high (c .before .before .before .before .before .before .before .pre .0) _ _ (c .before .before .before .before .loop .inv) (c .before .before .past-same .ensures)
+    λ k h. past-high k (c .before .before .before .before .before .before .before .pre .0) _ _ (c .before .before .before .before .loop .inv k h) (c .before .before .past-same .ensures)
     (omega (arith, c .before .before .past-same .ensures .ahead, c .before .if1 .left))
 
 returns : tie.Need-returns Inv-loop μ-loop
-returns c = c .before .loop .inv
+returns c = c .before .loop .inv _ (c .before .before .before .before .pre .1)
 
 returns-2 : tie.Need-returns-2 Inv-loop μ-loop
-returns-2 c = c .before .before .before .loop .inv
+returns-2 c = c .before .before .before .loop .inv _ (c .before .before .before .before .before .before .pre .1)
 
 pub high-spec : {M : Type 1} → statement M
 high-spec =

@@ -9,11 +9,14 @@ use Rattle.trace.proofs.quiet.line_of.Tie as tie
 last-of-requires : tie.Need-last-of-requires
 last-of-requires c κs = search needs
 
+counting-requires : tie.Need-counting-requires
+counting-requires c κs = search needs
+
 returns : tie.Need-returns
-returns c = yes _ (rw (c .before .before .before .last-of .ensures, last-data) at (c .if1 .taken)) refl
+returns c = yes _ (rw (c .before .before .before .before .last-of .ensures, last-data, c .before .before .counting .ensures) at (c .if1 .taken)) refl
 
 returns-2 : tie.Need-returns-2
-returns-2 c = no _ (rw (c .before .before .before .last-of .ensures, last-data) at (c .if1 .left)) refl
+returns-2 c = no _ (rw (c .before .before .before .before .last-of .ensures, last-data, c .before .before .counting .ensures) at (c .if1 .left)) refl
 
 pub line-of-spec : {M : Type 1} → statement M
-line-of-spec = tie.close (tie.spec last-of-requires returns returns-2)
+line-of-spec = tie.close (tie.spec last-of-requires counting-requires returns returns-2)

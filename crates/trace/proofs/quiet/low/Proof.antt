@@ -8,10 +8,10 @@ use Rattle.trace.proofs.quiet.low.Statement.{statement}
 use Rattle.trace.proofs.quiet.low.Tie as tie
 
 abbrev Inv-loop : tie.InvT-loop
-Inv-loop session samples from p₀ p = Reached samples session from p
+Inv-loop chip session samples from p₀ p = Reached chip samples session from p
 
 abbrev μ-loop : tie.MeasureT-loop
-μ-loop session samples from p₀ p = length samples - p .at
+μ-loop chip session samples from p₀ p = length samples - p .at
 
 past-bits-requires : tie.Need-past-bits-requires Inv-loop μ-loop
 past-bits-requires c κs = c .before .pre
@@ -23,13 +23,13 @@ past-low-requires : tie.Need-past-low-requires Inv-loop μ-loop
 past-low-requires c κs = (c .before .before .before .before .before .pre .0, c .before .before .loop .inv .apt, c .if1 .taken)
 
 returns : tie.Need-returns Inv-loop μ-loop
-returns c = reached-join (c .before .before .before .before .before .before .loop .inv) (c .before .before .before .past-low .ensures)
+returns c = reached-join _ (c .before .before .before .before .before .before .loop .inv) (c .before .before .before .past-low .ensures)
 
 loop-less : tie.Need-loop-less Inv-loop μ-loop
 loop-less c = omega (arith, c .before .before .before .past-low .ensures, c .if2 .left, c .before .before .before .before .if1 .taken)
 
 loop-again : tie.Need-loop-again Inv-loop μ-loop
-loop-again c = reached-join (c .before .before .before .before .before .before .loop .inv) (c .before .before .before .past-low .ensures)
+loop-again c = reached-join _ (c .before .before .before .before .before .before .loop .inv) (c .before .before .before .past-low .ensures)
 
 returns-2 : tie.Need-returns-2 Inv-loop μ-loop
 returns-2 c = c .before .before .loop .inv

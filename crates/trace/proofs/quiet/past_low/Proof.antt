@@ -11,21 +11,21 @@ past-same-requires c κs = c .before .pre .2
 returns : tie.Need-returns
 returns c =
     let a = c .before .before .before in
-    past (a .pre .0) _ _ (begun _ (a .pre .1) (a .pre .2)) (c .before .past-same .ensures)
+    past _ (a .pre .0) _ _ (begun _ _ (a .pre .1) (a .pre .2)) (c .before .past-same .ensures)
 
 shared-slice-read-x : tie.Need-shared-slice-read-x
 shared-slice-read-x c = c .before .before .before .before .pre .2
 
 returns-2 : tie.Need-returns-2
-returns-2 c = begun _ (c .before .before .before .before .before .pre .1) (c .before .before .before .before .before .pre .2)
+returns-2 c = begun _ _ (c .before .before .before .before .before .pre .1) (c .before .before .before .before .before .pre .2)
 
-add-t13 : tie.Need-add-t13
-add-t13 c = search needs
+add-t14 : tie.Need-add-t14
+add-t14 c = search needs
 
 returns-3 : tie.Need-returns-3
 returns-3 c =
     let a = c .before .before .before .before .before .before .before in
-    idle (a .pre .0) (begun _ (a .pre .1) (a .pre .2)) (a .pre .2) (even-level _ (c .before .before .if2 .left)) (c .if3 .taken)
+    idle _ (a .pre .0) (begun _ _ (a .pre .1) (a .pre .2)) (a .pre .2) (even-level _ (c .before .before .if2 .left)) (c .if3 .taken)
 
 last-of-requires : tie.Need-last-of-requires
 last-of-requires c κs = search needs
@@ -34,25 +34,25 @@ line-of-requires : tie.Need-line-of-requires
 line-of-requires c κs = search needs
 
 bit-at-requires : tie.Need-bit-at-requires
-bit-at-requires c κs = omega (arith, line-lt (c .before .before .before .before .before .before .before .before .before .before .before .args .session), c .line-of .ensures)
+bit-at-requires c κs = omega (arith, line-lt (c .before .before .before .before .before .before .before .before .before .before .before .args .chip) (c .before .before .before .before .before .before .before .before .before .before .before .args .session), c .line-of .ensures)
 
-add-t14 : tie.Need-add-t14
-add-t14 c = search needs
+add-t15 : tie.Need-add-t15
+add-t15 c = search needs
 
 shift-in-requires : tie.Need-shift-in-requires
-shift-in-requires c κs = room-for-bit (c .before .before .before .before .before .before .before .before .before .before .before .before .before .pre .1)
+shift-in-requires c κs = room-for-bit _ (c .before .before .before .before .before .before .before .before .before .before .before .before .before .pre .1)
 
-add-t16 : tie.Need-add-t16
-add-t16 c = search needs
+add-t17 : tie.Need-add-t17
+add-t17 c = search needs
 
 returns-4 : tie.Need-returns-4
 returns-4 c =
     let a = c .before .before .before .before .before .before .before .before .before .before .before .before .before .before in
     rw (c .shift-in .ensures, c .before .before .bit-at .ensures, c .before .before .before .line-of .ensures)
-    (bit (a .pre .0) (begun _ (a .pre .1) (a .pre .2)) (a .pre .2) (even-level _ (c .before .before .before .before .before .before .before .before .before .if2 .left)) (c .before .before .before .before .before .before .before .if3 .left) (rw (c .before .before .before .before .before .before .last-of .ensures) at (c .before .before .before .before .if4 .taken)))
+    (bit _ (a .pre .0) (begun _ _ (a .pre .1) (a .pre .2)) (a .pre .2) (even-level _ (c .before .before .before .before .before .before .before .before .before .if2 .left)) (c .before .before .before .before .before .before .before .if3 .left) (rw (c .before .before .before .before .before .before .last-of .ensures) at (c .before .before .before .before .if4 .taken)))
 
 returns-5 : tie.Need-returns-5
-returns-5 c = begun _ (c .before .before .before .before .before .before .before .before .before .before .pre .1) (c .before .before .before .before .before .before .before .before .before .before .pre .2)
+returns-5 c = begun _ _ (c .before .before .before .before .before .before .before .before .before .before .pre .1) (c .before .before .before .before .before .before .before .before .before .before .pre .2)
 
 pub past-low-spec : {M : Type 1} → statement M
 past-low-spec =
@@ -62,13 +62,13 @@ past-low-spec =
     returns
     shared-slice-read-x
     returns-2
-    add-t13
+    add-t14
     returns-3
     last-of-requires
     line-of-requires
     bit-at-requires
-    add-t14
+    add-t15
     shift-in-requires
-    add-t16
+    add-t17
     returns-4
     returns-5)

@@ -1,0 +1,120 @@
+-- A run that the sender accepts goes to its last byte: on an older chip its count is that of its instruction, or it streams, and its addresses
+-- stay from 0 to the top. Behind the last byte no counted run is left.
+use Prim.Native.Nat.{ℕ, zero, suc, _+_, _-_, _≤_, _<_}
+use mathlib.Core.Path.{_≡_, refl, ap, subst, _∙_}
+use mathlib.Core.Bool.{Bool, true, false, cond}
+use mathlib.Core.List.{List, [], _∷_, _++_, foldl}
+use native.Mathlib.Omega.{arith}
+use lib.Dec.{eqb, leb}
+use lib.ListN.{length}
+use borrow.Author.Tests.{ne-eqb, le-leb, leb-true, eqb-true}
+use Rattle.bits.proofs.Cases.{each}
+use Rattle.chip.specs.declared.Part.{Part}
+use Rattle.chip.specs.declared.Chip.{Chip}
+use Rattle.chip.specs.declared.Chip.the-variants.{Newer, Older}
+use Rattle.settings.specs.declared.Settings.{Settings}
+use Rattle.settings.specs.declared.InUse.{InUse}
+use Rattle.settings.specs.Settings.{counting, nextAddress}
+use Rattle.session.specs.declared.Session.{Session}
+use Rattle.session.specs.declared.Event.the-variants.{Whole}
+use Rattle.session.specs.State.{inData, isCounted, soundSession}
+use Rattle.session.specs.Step.{runsOut, stepOf}
+use Rattle.session.proofs.Form.{Form, rests, instructs, has-data, stalls, passes, leftAfter, sound-form}
+use Rattle.order.specs.Order.{RunByte, runFrom}
+use Rattle.order.specs.Samples.{bitsOf, lengthBits, byteBits, runBits, clocked}
+use Rattle.order.specs.Number.{upTo}
+use Rattle.order.proofs.Laws.{clocked-append}
+use Rattle.order.proofs.Addresses.{stays-on}
+use Rattle.guarantees.proofs.Events.{settingsOn}
+use Rattle.guarantees.proofs.Pieces.{afterWhole, stepped-byte}
+use Rattle.guarantees.proofs.Runs.{Fits, AllFit, Goes, goes-on}
+
+pub newer-goes : (u : InUse) (vs : List ℕ) (left a : ℕ) → Goes Newer u left a vs
+newer-goes u [] left a = tt
+newer-goes u (v ∷ []) left a = tt
+newer-goes u (v ∷ w ∷ vs) left a = (refl, newer-goes u (w ∷ vs) (leftAfter left) (nextAddress (u .ascending) a))
+
+-- what is left of a run with so many bytes to come: it streams, or is counted to the last of them
+pub data Remaining (k : ℕ) : ℕ → Type 0 where
+  streaming : Remaining k 4
+  exactly : k < 4 → Remaining k k
+
+pub instruction-leaves : (k : ℕ) → 1 ≤ k → Remaining k (lengthBits k + 1)
+instruction-leaves k h = by (leb k 3) refl
+  where
+    by : (t : Bool) → leb k 3 ≡ t → Remaining k (cond t (k - 1) 3 + 1)
+    by true e =
+        let same : k ≡ k - 1 + 1 = omega arith in
+        subst (Remaining k) same (exactly (omega (arith, leb-true k 3 e)))
+    by false e = streaming
+
+-- with two bytes or more to come this one is not the last
+more-left : (k : ℕ) {left : ℕ} → Remaining (suc (suc k)) left → (eqb left 1 ≡ false) × Remaining (suc k) (leftAfter left)
+more-left k streaming = (refl, streaming)
+more-left k (exactly h) =
+    let counted : isCounted (suc (suc k)) ≡ true = rw (le-leb 1 (suc (suc k)) (omega arith), le-leb (suc (suc k)) 3 (omega arith)) in
+    let less : suc k ≡ suc (suc k) - 1 = omega arith in
+    (ne-eqb (suc (suc k)) 1 (λ (z : suc (suc k) ≡ 1). omega arith), rw counted (subst (Remaining (suc k)) less (exactly (omega arith))))
+
+pub older-goes : (part : Part) (top : ℕ) (u : InUse) (vs : List ℕ) (left a : ℕ) → top < 0x7FFF → Remaining (length vs) left
+    → upTo top (runFrom (u .lsb) a vs) ≡ true → Goes (Older part top) u left a vs
+older-goes part top u [] left a low r h = tt
+older-goes part top u (v ∷ []) left a low r h = tt
+older-goes part top u (v ∷ w ∷ ws) left a low r h =
+    let m = more-left (length ws) r in
+    let on = stays-on top (u .lsb) a v w ws low h in
+    (rw (m .0, on .not-at-end), older-goes part top u (w ∷ ws) (leftAfter left) (nextAddress (u .lsb) a) low (m .1) (on .onward))
+
+-- ---- what is left at the end
+
+-- a newer chip's session has nothing of it
+pub newer-left : (s : Session) → soundSession Newer s ≡ true → isCounted (s .left) ≡ false
+newer-left s h = by (sound-form Newer s h)
+  where
+    by : {s : Session} → Form Newer s → isCounted (s .left) ≡ false
+    by (rests k t) = refl
+    by (instructs k n v t u h g) = refl
+    by (has-data k n v a r l t u h g f d) = rw (eqb-true l 0 d)
+    by (stalls k a r l t u f e d) = rw (eqb-true l 0 d)
+    by (passes k t e) = refl
+
+pub fold-append : {A B : Type 0} (f : A → B → A) (a : A) (xs ys : List B) → foldl f a (xs ++ ys) ≡ foldl f (foldl f a xs) ys
+fold-append f a [] ys = refl
+fold-append f a (x ∷ xs) ys = fold-append f (f a x) xs ys
+
+module _ (part : Part) (top : ℕ) (read : Bool) (u : InUse) where
+  -- after the last byte a counted run is out, and one that streams goes on or is passed over
+  last-left : (t : Settings) (a v : ℕ) {left : ℕ} → Remaining 1 left → isCounted (afterWhole (Older part top) read t u a left v .left) ≡ false
+  last-left t a v streaming =
+      each (λ (s : Session). isCounted (s .left) ≡ false) (runsOut (Older part top) 4 a (u .lsb)) (λ e. refl) (λ e. refl)
+  last-left t a v (exactly h) = refl
+
+  -- the samples of the first byte, and then those of the others
+  byte-first : (vs : List ℕ) (v : ℕ) (t : Settings) (a left : ℕ) (sclk : Bool) → Fits (Older part top) read u t (record { address = a; byte = v })
+      → foldl (stepOf (Older part top)) (inData sclk 0 0 a read left t u) (clocked (runBits false read (u .lsb) (runFrom (u .lsb) a (v ∷ vs))))
+      ≡ foldl (stepOf (Older part top)) (afterWhole (Older part top) read t u a left v)
+      (clocked (runBits false read (u .lsb) (runFrom (u .lsb) (nextAddress (u .lsb) a) vs)))
+  unfolding runFrom runBits byteBits
+  byte-first vs v t a left sclk fits =
+      let step = stepOf (Older part top) in
+      let now = inData sclk 0 0 a read left t u in
+      let byte = bitsOf (u .lsb) 8 v in
+      let rest = runBits false read (u .lsb) (runFrom (u .lsb) (nextAddress (u .lsb) a) vs) in
+      ap (foldl step now) (clocked-append byte rest)
+      ∙ fold-append step now (clocked byte) (clocked rest)
+      ∙ ap (λ (s : Session). foldl step s (clocked rest)) (stepped-byte (Older part top) read t u a left v (fits .small) (fits .zeros) sclk)
+
+  pub older-left : (vs : List ℕ) (v : ℕ) (t : Settings) (a left : ℕ) (sclk : Bool) → AllFit (Older part top) read u t (runFrom (u .lsb) a (v ∷ vs))
+      → Goes (Older part top) u left a (v ∷ vs) → Remaining (length (v ∷ vs)) left
+      → isCounted (foldl (stepOf (Older part top)) (inData sclk 0 0 a read left t u) (clocked (runBits false read (u .lsb) (runFrom (u .lsb) a (v ∷ vs)))) .left)
+      ≡ false
+  unfolding runFrom runBits clocked
+  older-left [] v t a left sclk fit goes r =
+      ap (λ (s : Session). isCounted (s .left)) (byte-first [] v t a left sclk (fit .0)) ∙ last-left t a v r
+  older-left (w ∷ ws) v t a left sclk fit goes r =
+      ap (λ (s : Session). isCounted (s .left))
+      (byte-first (w ∷ ws) v t a left sclk (fit .0)
+      ∙ ap (λ (s : Session). foldl (stepOf (Older part top)) s (clocked (runBits false read (u .lsb) (runFrom (u .lsb) (nextAddress (u .lsb) a) (w ∷ ws)))))
+      (goes-on (Older part top) read u t a left v (goes .0)))
+      ∙ older-left ws w (settingsOn (Older part top) t (Whole read a v)) (nextAddress (u .lsb) a) (leftAfter left) true (fit .1) (goes .1)
+      (more-left (length ws) r .1)

@@ -1,0 +1,84 @@
+// The reader's calls as a host makes them, on any chip: a session crosses as its bytes, which the crate `sessionbytes` puts together and
+// takes apart.
+ghost use mathlib.Core.Path.{_≡_};
+ghost use Rattle.registers.specs.Banks.{banks};
+ghost use Rattle.hostcalls.specs.Calls.{opening, openOf, outcome, readOf, next, nextOf};
+use chip::Chip;
+use nextrecord::next_on;
+use reader::open_on;
+use reader::read_on;
+use sessionbytes::SIZE;
+use sessionbytes::are_session;
+use sessionbytes::bytes_of;
+use sessionbytes::session_of;
+
+// Puts each default in both banks. The opened session is handed back always; a refusal leaves the banks as they were.
+pub fn open(
+    chip: Chip,
+    map: &[u8],
+    session: &mut [u8; SIZE],
+    active: &mut [u8],
+    buffer: &mut [u8],
+) -> u32
+    ensures { λ r. ⌜ opening r (now (session .exit)) (banks (now (active .exit)) (now (buffer .exit))) ≡ openOf chip (now (map .entry)) (banks (now (active .entry)) (now (buffer .entry))) ⌝ }
+{
+    let opened = open_on(chip, map, active, buffer);
+    let fresh = opened.session;
+    *session = bytes_of(fresh);
+    opened.number as u32
+}
+
+// Reads samples: the session and the banks that they lead to, and how many records they gave, from the record buffer's start. A
+// refusal says 0 records and leaves all as it was; bytes that are no session are refused with 1.
+pub fn read(
+    chip: Chip,
+    map: &[u8],
+    session: &mut [u8; SIZE],
+    active: &mut [u8],
+    buffer: &mut [u8],
+    samples: &[u8],
+    records: &mut [u8],
+    count: &mut u64,
+) -> u32
+    ensures { λ r. ⌜ outcome r (now (session .exit)) (banks (now (active .exit)) (now (buffer .exit))) (now (count .exit)) (now (records .exit)) ≡ readOf chip (now (map .entry)) (now (session .entry)) (banks (now (active .entry)) (now (buffer .entry))) (now (samples .entry)) (now (records .entry)) ⌝ }
+{
+    if are_session(session) {
+        let given = session_of(session);
+        let answer = read_on(chip, map, given, active, buffer, samples, records);
+        let next = answer.session;
+        *session = bytes_of(next);
+        *count = answer.count as u64;
+        return answer.number as u32;
+    }
+    *count = 0;
+    1
+}
+
+// Reads samples up to and with the first that gives a record, or all of them, and says how many it read. A refusal says that none
+// was, and leaves all as it was.
+pub fn next_record(
+    chip: Chip,
+    map: &[u8],
+    session: &mut [u8; SIZE],
+    active: &mut [u8],
+    buffer: &mut [u8],
+    samples: &[u8],
+    records: &mut [u8],
+    count: &mut u64,
+    taken: &mut u64,
+) -> u32
+    ensures { λ r. ⌜ next (outcome r (now (session .exit)) (banks (now (active .exit)) (now (buffer .exit))) (now (count .exit)) (now (records .exit))) (now (taken .exit)) ≡ nextOf chip (now (map .entry)) (now (session .entry)) (banks (now (active .entry)) (now (buffer .entry))) (now (samples .entry)) (now (records .entry)) ⌝ }
+{
+    if are_session(session) {
+        let given = session_of(session);
+        let found = next_on(chip, map, given, active, buffer, samples, records);
+        let after = found.session;
+        *session = bytes_of(after);
+        *count = found.count as u64;
+        *taken = found.taken as u64;
+        return found.number as u32;
+    }
+    *count = 0;
+    *taken = 0;
+    1
+}

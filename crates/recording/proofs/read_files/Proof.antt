@@ -1,0 +1,77 @@
+-- `read_files` meets its contract: the map and the banks that it lends are within their buffers.
+use mathlib.Core.Path.{sym}
+use native.Mathlib.Omega.{arith}
+use lib.Seq.{length-take-le}
+use Rattle.recording.proofs.Laws.{within-bytes}
+use borrow.Author.Needs.{needs}
+use Rattle.recording.proofs.read_files.Statement.{statement}
+use Rattle.recording.proofs.read_files.Tie as tie
+
+slice-aggregate-read-map : tie.Need-slice-aggregate-read-map
+slice-aggregate-read-map c = search needs
+
+read-map-requires : tie.Need-read-map-requires
+read-map-requires c κs = search needs
+
+enum-known-length : tie.Need-enum-known-length
+enum-known-length c = c .match .keys1
+
+enum-told : tie.Need-enum-told
+enum-told c = c .match .keys2
+
+unread-requires : tie.Need-unread-requires
+unread-requires c κs = tt
+
+returns : tie.Need-returns
+returns c = rw (c .unread .ensures) tt
+
+array-share-prefix-map : tie.Need-array-share-prefix-map
+array-share-prefix-map c =
+    let m = c .before .before .before .before .read-map in
+    omega (arith, within-bytes (c .before .length .given .1) (m .ensures), m .kept .1 .1 .0)
+
+slice-aggregate-given : tie.Need-slice-aggregate-given
+slice-aggregate-given c =
+    let m = c .before .before .before .before .before .read-map in
+    sym (length-take-le _ _ (omega (arith, within-bytes (c .before .before .length .given .1) (m .ensures), m .kept .1 .1 .0)))
+
+bank-size-requires : tie.Need-bank-size-requires
+bank-size-requires c κs = tt
+
+array-borrow-prefix-active : tie.Need-array-borrow-prefix-active
+array-borrow-prefix-active c = search needs
+
+slice-aggregate-read-opened : tie.Need-slice-aggregate-read-opened
+slice-aggregate-read-opened c = sym (length-take-le _ _ (omega (arith, c .before .bank-size .ensures)))
+
+array-borrow-prefix-buffer : tie.Need-array-borrow-prefix-buffer
+array-borrow-prefix-buffer c = search needs
+
+slice-aggregate-read-opened-2 : tie.Need-slice-aggregate-read-opened-2
+slice-aggregate-read-opened-2 c = sym (length-take-le _ _ (omega (arith, c .before .before .bank-size .ensures)))
+
+read-opened-requires : tie.Need-read-opened-requires
+read-opened-requires c κs = tt
+
+returns-2 : tie.Need-returns-2
+returns-2 c = search needs
+
+pub read-files-spec : {M : Type 1} → statement M
+read-files-spec =
+    tie.close
+    (tie.spec
+    slice-aggregate-read-map
+    read-map-requires
+    enum-known-length
+    enum-told
+    unread-requires
+    returns
+    array-share-prefix-map
+    slice-aggregate-given
+    bank-size-requires
+    array-borrow-prefix-active
+    slice-aggregate-read-opened
+    array-borrow-prefix-buffer
+    slice-aggregate-read-opened-2
+    read-opened-requires
+    returns-2)

@@ -1,0 +1,174 @@
+//! What the reader's calls for older chips refuse: every number with its order, every
+//! byte of a session, banks, tops and room.
+
+use couplingnut_tests::calls::{Call, Comparison, Given};
+use couplingnut_tests::generate::calls::{spoil, Wrong};
+use couplingnut_tests::generate::older::maps::{good_older_map, simple_older_map};
+use couplingnut_tests::generate::older::sessions::{
+    every_older_piece, sound_older_session, unsound_older_sessions,
+};
+use couplingnut_tests::generate::older::traces::older_trace;
+use couplingnut_tests::generate::older::{another_top, any_older, PARTS};
+use couplingnut_tests::generate::random::Random;
+use couplingnut_tests::guarded::Against;
+use couplingnut_tests::layout::{to_bytes, FLAGS, LEFT_AT, PHASE_AT, SESSION_SIZE, VERSION};
+use couplingnut_tests::second::older::Older;
+use couplingnut_tests::second::reader::{most_records, RECORD};
+use couplingnut_tests::second::session::Session;
+
+/// A call that is done and has a record.
+fn good_call(random: &mut Random) -> Given {
+    let older = any_older(random);
+    let older = Older { top: older.top.min(0x0040), ..older };
+    let mut given = Given::opened_by(Some(older), &good_older_map(random, older));
+    let count = given.active.len();
+    given.active = random.bytes(count);
+    given.buffer = random.bytes(count);
+    // A bit of an instruction, and the cut; then anything.
+    given.samples = vec![0x00, 0x02, 0x01];
+    let length = random.between(0, 200);
+    given.samples.extend(older_trace(random, older, length));
+    given.records = random.bytes(RECORD * most_records(given.samples.len()));
+    given
+}
+
+/// Calls that nothing refuses, with records, and then every set of reasons: 1, 2, 3,
+/// 4, 12, 5, 6.
+#[test]
+fn twelve_comes_after_4_and_before_5() {
+    let mut comparison = Comparison::new("older::refusals::twelve_comes_after_4_and_before_5");
+    for seed in 0..128 * 60 {
+        let mut random = Random::new(seed);
+        comparison.begin(seed, Against::PageAfter);
+        let wrongs: Vec<Wrong> =
+            (0..).zip(Wrong::OLDER).filter(|(i, _)| seed >> i & 1 == 1).map(|(_, w)| w).collect();
+        let first = wrongs.first().map_or(0, |wrong| wrong.number());
+        for call in Call::READING {
+            let mut given = good_call(&mut random);
+            spoil(&mut random, call, &mut given, &wrongs);
+            assert_eq!(comparison.call(call, &given).number, first, "{wrongs:?}");
+        }
+        let of_opening = [Wrong::MapForm, Wrong::MapEntry, Wrong::Banks, Wrong::Top];
+        let first = wrongs.iter().find(|wrong| of_opening.contains(wrong));
+        let mut given = good_call(&mut random);
+        spoil(&mut random, Call::Read, &mut given, &wrongs);
+        let left = comparison.call(Call::Open, &given);
+        assert_eq!(left.number, first.map_or(0, |wrong| wrong.number()), "{wrongs:?}");
+        assert_eq!(left.session, to_bytes(&Session::opened()));
+    }
+    let tally = &comparison.tally;
+    tally.assert_numbers(Call::Read, &[0, 1, 2, 3, 4, 5, 6, 12], 50);
+    tally.assert_numbers(Call::Open, &[0, 2, 3, 4, 12], 50);
+}
+
+/// Every byte of a session takes every value, alone, from sessions in every piece;
+/// the bytes left have only values that are sound or not.
+#[test]
+fn every_byte_of_a_session_is_looked_at() {
+    let mut comparison = Comparison::new("older::refusals::every_byte_of_a_session_is_looked_at");
+    for (seed, piece) in (0..).zip(every_older_piece()) {
+        comparison.begin(seed, Against::PageAfter);
+        let older = Older { part: PARTS[seed as usize % 2], top: 0x0011 };
+        let mut given = Given::opened_by(Some(older), &simple_older_map(older));
+        given.samples = vec![0x00, 0x02, 0x03];
+        given.records = vec![0xEE; 2 * RECORD];
+        let sound = to_bytes(&piece);
+        for (at, value) in (0..SESSION_SIZE).flat_map(|at| (0..=255).map(move |v| (at, v))) {
+            given.session = sound;
+            given.session[at] = value;
+            let no_session = at == 0 && value != VERSION
+                || at == PHASE_AT && value > 2
+                || FLAGS.contains(&at) && value > 1
+                || at == LEFT_AT && value > 4;
+            for call in Call::READING {
+                let left = comparison.call(call, &given);
+                assert!(left.number == 1 || !no_session, "byte {at} is {value}");
+                assert!(left.number <= 1, "nothing else is wrong");
+            }
+        }
+    }
+    comparison.tally.assert_numbers(Call::Read, &[0, 1], 1_000);
+}
+
+#[test]
+fn every_unsound_session_is_refused_with_1() {
+    let mut comparison =
+        Comparison::new("older::refusals::every_unsound_session_is_refused_with_1");
+    for (part, top) in
+        PARTS.into_iter().flat_map(|part| [0x000F, 0x002C, 0x1FFF].map(|t| (part, t)))
+    {
+        let older = Older { part, top };
+        let given = Given::opened_by(Some(older), &simple_older_map(older));
+        for (seed, session) in (0..).zip(unsound_older_sessions(top as u16)) {
+            comparison.begin(seed, Against::PageAfter);
+            let given = Given { session: to_bytes(&session), ..given.clone() };
+            for call in Call::READING {
+                assert_eq!(comparison.call(call, &given), given.untouched(1), "{session:?}");
+            }
+        }
+    }
+}
+
+/// Any top but the map's with any sound session: 1 where the address is above it,
+/// else 12, for all three calls.
+#[test]
+fn every_other_top_is_refused() {
+    let mut comparison = Comparison::new("older::refusals::every_other_top_is_refused");
+    for seed in 0..10_000 {
+        comparison.begin(seed, Against::PageAfter);
+        let mut random = Random::new(seed);
+        let mut given = good_call(&mut random);
+        let older = given.older.expect("an older chip");
+        let session = sound_older_session(&mut random, older.top);
+        let top = another_top(&mut random, older.top);
+        given.session = to_bytes(&session);
+        given.older = Some(Older { top, ..older });
+        let expected = if u64::from(session.address) > top { 1 } else { 12 };
+        for call in Call::READING {
+            assert_eq!(comparison.call(call, &given).number, expected, "top {top:#X}");
+        }
+        assert_eq!(comparison.call(Call::Open, &given).number, 12);
+    }
+}
+
+/// Both banks of every length up to a few more than n; 4 comes before 12.
+#[test]
+fn both_banks_have_to_fit() {
+    let mut comparison = Comparison::new("older::refusals::both_banks_have_to_fit");
+    let mut random = Random::new(4);
+    let lengths = || (0..=20).chain([17 + 256, 17 + 8_192]);
+    for (active, buffer) in lengths().flat_map(|active| lengths().map(move |b| (active, b))) {
+        comparison.begin(active as u64, Against::PageAfter);
+        let right = Older { part: PARTS[active % 2], top: 0x0010 };
+        let mut given = Given::opened_by(Some(right), &simple_older_map(right));
+        given.active = random.bytes(active);
+        given.buffer = random.bytes(buffer);
+        let fits = active == 17 && buffer == 17;
+        for (top, expected) in [(0x0010, 0), (0x0011, 12), (1 << 20, 12)] {
+            given.older = Some(Older { top, ..right });
+            let expected = if fits { expected } else { 4 };
+            for call in [Call::Open, Call::Read, Call::NextRecord] {
+                assert_eq!(comparison.call(call, &given).number, expected, "{active}, {buffer}");
+            }
+        }
+    }
+}
+
+/// Every room from none to more than enough, filled with noise.
+#[test]
+fn the_room_that_is_needed_is_exact() {
+    let mut comparison = Comparison::new("older::refusals::the_room_that_is_needed_is_exact");
+    for seed in 0..1_500 {
+        comparison.begin(seed, Against::PageAfter);
+        let mut random = Random::new(seed);
+        let mut given = good_call(&mut random);
+        for call in Call::READING {
+            let needed = RECORD * given.records_due(call);
+            for room in [0, 1, RECORD, needed - 1, needed, needed + 1, needed + 50] {
+                given.records = random.bytes(room);
+                let expected = if room < needed { 6 } else { 0 };
+                assert_eq!(comparison.call(call, &given).number, expected, "{room} of {needed}");
+            }
+        }
+    }
+}
