@@ -1,7 +1,8 @@
-# Two commands do everything: `make run` builds the programs and reads an example, `make test` is the gate.
+# Three commands do everything: `make run` builds the programs and reads an example, `make test` is the gate, `make report` makes the page
+# of the example unit.
 # Beyond them: `make` builds programs and libraries, `make install` and `make uninstall` take PREFIX and DESTDIR, `make dist` packs it
 # all for a PC without the toolchain.
-.PHONY: all run build library install uninstall dist test bench clean
+.PHONY: all run report build library install uninstall dist test bench clean
 
 VERSION := $(shell cat VERSION)
 PREFIX = /usr/local
@@ -12,6 +13,13 @@ all: library
 # The example: a map, and the samples that the sender makes of one write, into the reader.
 run: build
 	@target/host/bussend write 0x000A 0x3C | target/host/busread examples/scratch.map
+
+# The example unit of the open day: its page, and the first lines of it. It is not ready, which is status 1.
+PAGE = target/open-day.html
+report: library
+	@tools/couplingnut report examples/open-day.txt examples/open-day.sr -o $(PAGE) || [ $$? -eq 1 ]
+	@tools/couplingnut report examples/open-day.txt examples/open-day.sr | head -n 2
+	@echo "the page: $(PAGE)"
 
 # The two programs with an exit status are C over proved code, and tell the version of the file VERSION.
 COMPILE = gcc -std=c11 -O2 -Wall -Wextra -Werror -D_DEFAULT_SOURCE -DCOUPLINGNUT_VERSION='"$(shell cat VERSION)"'
@@ -46,15 +54,20 @@ library: build
 	@ln -s $(SONAME) target/lib/libcouplingnut.so
 
 # What is installed, under PREFIX. PCPREFIX is the prefix that pkg-config gives.
-INSTALLED = bin/busread bin/bussend bin/mkmap include/couplingnut.h lib/libcouplingnut.a lib/$(SHARED) lib/$(SONAME) \
-	lib/libcouplingnut.so lib/pkgconfig/couplingnut.pc $(PYTHON)/couplingnut.py share/couplingnut/VERSION $(MAN:%=share/man/%)
-MAN = man1/busread.1 man1/bussend.1 man1/mkmap.1 man3/couplingnut.3
+INSTALLED = bin/busread bin/bussend bin/couplingnut bin/mkmap include/couplingnut.h lib/libcouplingnut.a lib/$(SHARED) lib/$(SONAME) \
+	lib/libcouplingnut.so lib/pkgconfig/couplingnut.pc $(PYTHON)/couplingnut.py $(REPORT:python/%=$(PYTHON)/%) \
+	$(DECODER:sigrok/%=$(DECODERS)/%) share/couplingnut/VERSION $(MAN:%=share/man/%)
+MAN = man1/busread.1 man1/bussend.1 man1/couplingnut.1 man1/mkmap.1 man3/couplingnut.3
 PYTHON = lib/python3/dist-packages
+REPORT = $(wildcard python/couplingnut_report/*.py python/couplingnut_report/*.css)
+# Where libsigrokdecode looks for decoders, under /usr and /usr/local.
+DECODERS = share/libsigrokdecode/decoders
+DECODER = $(wildcard sigrok/couplingnut/*.py)
 PCPREFIX = $(PREFIX)
 TO = $(DESTDIR)$(PREFIX)
 install: library
 	@install -d $(sort $(dir $(INSTALLED:%=$(TO)/%)))
-	@install -m 755 target/host/busread target/host/bussend tools/mkmap $(TO)/bin
+	@install -m 755 target/host/busread target/host/bussend tools/couplingnut tools/mkmap $(TO)/bin
 	@install -m 644 host/couplingnut.h $(TO)/include
 	@install -m 644 target/lib/libcouplingnut.a target/lib/$(SHARED) $(TO)/lib
 	@ln -sf $(SHARED) $(TO)/lib/$(SONAME)
@@ -62,11 +75,13 @@ install: library
 	@sed -e 's|@PREFIX@|$(PCPREFIX)|' -e 's|@VERSION@|$(VERSION)|' host/couplingnut.pc.in >target/lib/couplingnut.pc
 	@install -m 644 target/lib/couplingnut.pc $(TO)/lib/pkgconfig
 	@install -m 644 python/couplingnut.py $(TO)/$(PYTHON)
+	@install -m 644 $(REPORT) $(TO)/$(PYTHON)/couplingnut_report
+	@install -m 644 $(DECODER) $(TO)/$(DECODERS)/couplingnut
 	@install -m 644 VERSION $(TO)/share/couplingnut
 	@for page in $(MAN); do install -m 644 "man/$${page#*/}" "$(TO)/share/man/$$page"; done
 
 uninstall:
-	@rm -rf $(TO)/$(PYTHON)/__pycache__/couplingnut.*
+	@rm -rf $(TO)/$(PYTHON)/__pycache__/couplingnut.* $(TO)/$(PYTHON)/couplingnut_report $(TO)/$(DECODERS)/couplingnut
 	@rm -f $(INSTALLED:%=$(TO)/%)
 	@-rmdir $(TO)/share/couplingnut 2>/dev/null || true
 

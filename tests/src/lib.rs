@@ -9,17 +9,20 @@
 //! memory from [`guarded`] and sessions as in [`layout`]; [`both`] makes a call by
 //! both sides. [`chip`] is a register map with its session and banks, for tests that
 //! read a few frames and look at what came of them, and [`book`] what a stopped
-//! run leaves.
+//! run leaves. [`json`] and [`captures`] are for the bench report: what it says, and
+//! the files it reads.
 
 #![deny(warnings, unsafe_code)]
 
 pub mod book;
 pub mod both;
 pub mod calls;
+pub mod captures;
 pub mod chip;
 pub mod environment;
 pub mod generate;
 pub mod guarded;
+pub mod json;
 pub mod layout;
 pub mod library;
 pub mod made;

@@ -19,6 +19,7 @@ mod reader;
 mod refusals;
 mod registers;
 mod report;
+mod report_page;
 mod sender;
 mod setup;
 mod stopped_run;

@@ -17,6 +17,7 @@
 //! | `setup` | document 02, Ask 6 |
 //! | `mend` | document 02, Ask 12 |
 //! | `frames` | document 02, Ask 13 |
+//! | `verdict` | the rule of the bench report, docs/RULES.md |
 //!
 //! The call for the next record, in `reader`, is the library's own: document 01
 //! does not have it.
@@ -34,6 +35,7 @@ pub mod sender;
 pub mod session;
 pub mod settings;
 pub mod setup;
+pub mod verdict;
 
 /// What a call that fills a lent buffer gives back: the number, and how many
 /// records, samples or bytes stand at the start of the buffer (0 with any

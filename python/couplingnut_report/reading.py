@@ -1,0 +1,165 @@
+"""A recording read by the library: its records with their samples, frame by frame, and both stages of every register at the end.
+
+Frames are cut out by the levels of the select line; what passed in them is for the library to say. A recording may be handed to it in
+any pieces without a difference, so each frame is handed over up to just before its end: the session there tells how it ended.
+"""
+from __future__ import annotations
+
+import functools
+import re
+from dataclasses import dataclass, field
+from typing import Dict, Iterator, List, Optional, Tuple, Union
+
+import couplingnut as cn
+
+from .captures import Capture
+from .unit import Unit
+
+PIECE = 4096
+WRITE, READ, CUT = 1, 2, 3
+IGNORED, ACTIVE, WAITING, SETTING, TRANSFER, RESET = range(6)
+_SELECT = bytes(byte & 1 for byte in range(256))
+_BAD = re.compile(rb'[^\x00-\x0F]')
+
+
+@dataclass(frozen=True)
+class Event:
+    """A record, the number of the sample that completed it, and what else the library showed there: whether buffer readback was on, how
+    many registers a transfer put in force, and the session before (of a cut: just before the select rose)."""
+    record: cn.Record
+    at: int
+    readback: bool
+    came_in_force: int
+    before: cn.Session
+
+    def is_write(self, *effects: int) -> bool:
+        """Whether it is a write with one of these effects."""
+        return self.record.kind == WRITE and self.record.byte5 in effects
+
+    def is_cut(self) -> bool:
+        """Whether it is a byte or a command that broke off."""
+        return self.record.kind == CUT
+
+    def in_data(self) -> bool:
+        """Of a cut: whether a byte broke off, and not a command."""
+        return self.record.byte4 == 1
+
+    def disagrees(self) -> bool:
+        """Whether it is a read that carried another byte than was due."""
+        return self.record.kind == READ and self.record.byte5 != 0
+
+
+@dataclass
+class Frame:
+    """The samples while the select was low: the first, the first after them (none if the recording ends in it), the session just before
+    the end, and what passed."""
+    start: int
+    end: Optional[int]
+    last: cn.Session
+    events: List[Event] = field(default_factory=list)
+
+    def took_no_bit(self) -> bool:
+        """Whether the clock never rose in it."""
+        return not self.events and self.last.phase == 'instruction' and self.last.bits == 0
+
+    def carried_no_byte(self) -> bool:
+        """Whether it ended right after its command."""
+        return not self.events and self.last.phase == 'data' and self.last.bits == 0
+
+
+@dataclass(frozen=True)
+class Reading:
+    """All that the library said of a recording."""
+    unit: Unit
+    capture: Capture
+    frames: List[Frame]
+    active: bytes
+    buffer: bytes
+    session: cn.Session
+
+    def events(self) -> Iterator[Event]:
+        """The events in order of time."""
+        return (event for frame in self.frames for event in frame.events)
+
+    @functools.cached_property
+    def writes(self) -> Dict[int, List[Event]]:
+        """For each register written, its writes with effect 1 or 2."""
+        found: Dict[int, List[Event]] = {}
+        for event in self.events():
+            if event.is_write(ACTIVE, WAITING):
+                found.setdefault(event.record.address, []).append(event)
+        return found
+
+    def begins_high(self) -> bool:
+        """Whether the first sample has the select high."""
+        return bool(self.capture.samples) and self.capture.samples[0] & 1 == 1
+
+    def ends_high(self) -> bool:
+        """Whether the select is high at the end."""
+        return bool(self.capture.samples) and self.session.phase == 'rest'
+
+
+@dataclass(frozen=True)
+class Refusal:
+    """A recording that the library refused: the number, its words, and the sample that is to blame, if it is one."""
+    unit: Unit
+    capture: Capture
+    number: int
+    words: str
+    at: Optional[int]
+
+
+def frames_of(samples: bytes) -> Iterator[Tuple[int, Optional[int]]]:
+    """Where the frames of a recording begin and end, by the levels of its select."""
+    levels = samples.translate(_SELECT)
+    start = levels.find(b'\0')
+    while start >= 0:
+        end = levels.find(b'\1', start)
+        yield start, None if end < 0 else end
+        start = -1 if end < 0 else levels.find(b'\0', end)
+
+
+class _Reader:
+    """The library with the session and the banks of one recording."""
+
+    def __init__(self, unit: Unit, samples: bytes):
+        self.map, self.samples, self.at = unit.map, samples, 0
+        self.active, self.buffer = cn.banks(unit.map)
+        self.session = cn.open(unit.map, self.active, self.buffer)
+
+    def up_to(self, end: int) -> Iterator[Event]:
+        """Reads on to this sample, and gives the events on the way."""
+        while self.at < end:
+            piece = self.samples[self.at:min(end, self.at + PIECE)]
+            before, active = self.session, bytes(self.active)
+            self.session, record, taken = cn.next_record(self.map, self.session, self.active, self.buffer, piece)
+            self.at += taken
+            if record is not None:
+                moves = record.kind == WRITE and record.byte5 == TRANSFER
+                came = sum(old != new for old, new in zip(active, self.active)) if moves else 0
+                yield Event(record, self.at - 1, self.session.settings.buffer_readback, came, before)
+
+
+def _read_frames(reader: _Reader) -> List[Frame]:
+    frames, length = [], len(reader.samples)
+    for start, end in frames_of(reader.samples):
+        before = list(reader.up_to(length if end is None else end))
+        frame = Frame(start, end, reader.session, before)
+        frame.events += reader.up_to(length if end is None else end + 1)
+        frames.append(frame)
+    for event in reader.up_to(length):
+        raise AssertionError(f'a record with the select high: {event}')
+    return frames
+
+
+def read(unit: Unit, capture: Capture) -> Union[Reading, Refusal]:
+    """The reading of a recording, or its refusal: of a refused one nothing is told, also not what came before the bad sample."""
+    reader = _Reader(unit, capture.samples)
+    bad = _BAD.search(capture.samples)
+    try:
+        if bad:
+            cn.read(unit.map, reader.session, reader.active, reader.buffer, bad[0])
+        frames = _read_frames(reader)
+    except cn.Refused as refused:
+        return Refusal(unit, capture, refused.number, cn.message(refused.number), bad.start() if bad else None)
+    return Reading(unit, capture, frames, bytes(reader.active), bytes(reader.buffer), reader.session)

@@ -1,0 +1,186 @@
+"""`couplingnut report --all`: a page for every recording of a folder, an index of them, and a line of JSON for each.
+
+A recording belongs to the table whose name its own begins with: CT-017-1452.sr to CT-017.txt. Whatever happens to one recording is a
+row of the index and never the end of the others.
+"""
+from __future__ import annotations
+
+import concurrent.futures
+import json
+import os
+import sys
+import time
+from dataclasses import dataclass, field
+from typing import Any, Dict, List, Optional
+
+from . import ends, output, report
+from .captures import Wish, read_capture
+from .htmlpage import html_page
+from .indexpage import Row, index_page
+from .jsonpage import as_object
+from .sentences import marked, readable
+from .unit import read_unit
+
+TABLE_END = '.txt'
+# What stands in a folder of recordings and is none.
+OTHERS = (TABLE_END, '.map', '.html', '.json', '.jsonl', '.pvs', '.md', '.pdf', '.png')
+LINES_FILE, INDEX_FILE = 'report.jsonl', 'index.html'
+# What a line of JSON leaves out: a folder's lines are for an overview.
+LEFT_OUT = ('records', 'frames', 'stages')
+
+
+@dataclass(frozen=True)
+class Folder:
+    """What is asked: a folder, the table for recordings that have none of their own, where the pages go, how many at a time."""
+    path: str
+    table: Optional[str]
+    out: Optional[str]
+    jobs: int
+    to_output: bool
+    wish: Wish
+    filled: report.Filled
+    flags: Optional[int]
+
+
+@dataclass(frozen=True)
+class _Task:
+    """One recording."""
+    folder: Folder
+    file: str
+    table: Optional[str]
+    unit: str
+    page: str
+
+
+@dataclass
+class _Done:
+    """What came of it: a row for the index, and its line of JSON."""
+    row: Row
+    told: Dict[str, Any] = field(default_factory=dict)
+
+
+def _listed(path: str) -> List[str]:
+    try:
+        names = sorted(name for name in os.listdir(path) if not name.startswith('.') and os.path.isfile(os.path.join(path, name)))
+    except OSError as error:
+        raise ends.Unreadable(f'{path}: {error.strerror}') from None
+    return names
+
+
+def _table_of(recording: str, tables: List[str]) -> Optional[str]:
+    """The table with the longest name that the recording's begins with."""
+    stem = os.path.splitext(recording)[0]
+    fitting = [table for table in tables if _begins(stem, os.path.splitext(table)[0])]
+    return max(fitting, key=len) if fitting else None
+
+
+def _begins(stem: str, start: str) -> bool:
+    return stem.startswith(start) and not stem[len(start):len(start) + 1].isalnum()
+
+
+def _tasks(folder: Folder) -> List[_Task]:
+    names = _listed(folder.path)
+    tables = [name for name in names if name.endswith(TABLE_END)]
+    recordings = [name for name in names if not name.lower().endswith(OTHERS)]
+    if not recordings:
+        raise ends.Wrong(f'{folder.path}: there is no recording in it')
+    stems = [os.path.splitext(name)[0] for name in recordings]
+    tasks = []
+    for name, stem in zip(recordings, stems):
+        table = _table_of(name, tables)
+        path = os.path.join(folder.path, table) if table else folder.table
+        page = stem if stems.count(stem) == 1 and stem != 'index' else name
+        tasks.append(_Task(folder, name, path, readable(os.path.splitext(table)[0] if table else stem), f'{page}.html'))
+    return tasks
+
+
+def _made(task: _Task) -> _Done:
+    """The report of one recording, its page written."""
+    folder = task.folder
+    if task.table is None:
+        raise ends.Wrong(f'no table of the folder has a name that {task.file} begins with, and none was given')
+    unit = read_unit(task.table, task.unit, folder.flags)
+    made = report.make(unit, read_capture(os.path.join(folder.path, task.file), folder.wish), folder.filled)
+    if folder.out is not None:
+        output.write_file(os.path.join(folder.out, task.page), html_page(made))
+    told = {name: value for name, value in as_object(made).items() if name not in LEFT_OUT}
+    reasons = [marked(reason.sentence) for reason in made.verdict.reasons]
+    in_force = made.in_force() if isinstance(made, report.Judged) else (0, 0)
+    return _Done(Row(task.unit, readable(task.file), _written(task), made.status(), reasons, in_force, task.page), told)
+
+
+def _written(task: _Task) -> str:
+    """When the file was last written, by its folder."""
+    try:
+        moment = os.stat(os.path.join(task.folder.path, task.file)).st_mtime
+    except OSError:
+        return '–'
+    return time.strftime('%Y-%m-%d %H:%M', time.localtime(moment))
+
+
+def _lost(task: _Task, status: int, words: str) -> _Done:
+    """A recording that gave no report."""
+    file, words = readable(task.file), readable(words)
+    told = {'unit': task.unit, 'verdict': 'unreadable', 'status': status, 'recording': {'file': file}, 'text': words}
+    return _Done(Row(task.unit, file, _written(task), status, [marked([words.replace('\n', '; ')])], (0, 0), None), told)
+
+
+def one(task: _Task) -> _Done:
+    """One recording, whatever it is."""
+    try:
+        return _made(task)
+    except ends.End as end:
+        return _lost(task, end.status, str(end))
+    except Exception as error:  # pylint: disable=broad-except
+        # A slip of ours in one recording is told in its row too.
+        return _lost(task, ends.FAILED, f'this program failed: {type(error).__name__}: {error}')
+
+
+def _show_progress(done: int, total: int) -> None:
+    """A bar, where somebody sees it."""
+    if sys.stderr is None or not sys.stderr.isatty():
+        return
+    wide = 30 * done // total
+    print(f'\r[{"#" * wide}{"." * (30 - wide)}] {done} of {total}', end='\n' if done == total else '', file=sys.stderr, flush=True)
+
+
+def _pooled(tasks: List[_Task], jobs: int, found: Dict[str, _Done], total: int) -> None:
+    """Adds what a pool of processes finds; a process that dies takes its pool with it, and those tasks are then missing."""
+    with concurrent.futures.ProcessPoolExecutor(jobs) as pool:
+        waiting = {pool.submit(one, task): task for task in tasks}
+        for future in concurrent.futures.as_completed(waiting):
+            if future.exception() is None:
+                found[waiting[future].file] = future.result()
+                _show_progress(len(found), total)
+
+
+def _in_parallel(tasks: List[_Task], jobs: int) -> List[_Done]:
+    """All tasks, so many at a time, each in a process of a pool. One that kills its process is tried once more alone."""
+    found: Dict[str, _Done] = {}
+    _show_progress(0, len(tasks))
+    _pooled(tasks, jobs, found, len(tasks))
+    for task in tasks:
+        if task.file not in found:
+            _pooled([task], 1, found, len(tasks))
+    return [found.get(task.file) or _lost(task, ends.FAILED, 'reading it ended the program') for task in tasks]
+
+
+def make_site(folder: Folder) -> int:
+    """All pages and the index. The status is the highest of the recordings'."""
+    tasks = _tasks(folder)
+    if folder.out is not None:
+        output.make_folder(folder.out)
+    done = [one(task) for task in tasks] if len(tasks) == 1 else _in_parallel(tasks, folder.jobs)
+    lines = ''.join(json.dumps(item.told, ensure_ascii=False) + '\n' for item in done)
+    if folder.out is not None:
+        name = os.path.basename(os.path.abspath(folder.path))
+        output.write_file(os.path.join(folder.out, LINES_FILE), lines)
+        output.write_file(os.path.join(folder.out, INDEX_FILE), index_page(name, [item.row for item in done]))
+    output.write_out(lines if folder.to_output else summary([item.row for item in done]))
+    return max(item.row.status for item in done)
+
+
+def summary(rows: List[Row]) -> str:
+    """A line for each recording."""
+    words = ('ready', 'NOT READY', 'NOT READ', 'NOT READ')
+    return ''.join(f'{words[row.status]:10} {row.unit}  {row.file}\n' for row in rows)

@@ -1,0 +1,1 @@
+"""Tests of the bench report, over the shared library."""
