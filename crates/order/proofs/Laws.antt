@@ -100,12 +100,6 @@ start-near (Older part top) o t k h = omega (arith, top-low part top t, older-st
 pub length-bits-few : (k : ℕ) → lengthBits k ≤ 3
 length-bits-few k = each (λ (l : ℕ). l ≤ 3) (leb k 3) (λ e. omega (arith, leb-true k 3 e)) (λ e. omega arith)
 
--- the length and the address of a run fit under the read bit
-pub under-read-bit : (c : Chip) (o : Order) → topGood c ≡ true → Counted o → addressesGood c o ≡ true
-    → lengthAndAddress c (o .count) (o .start) ≤ 0x7FFF
-under-read-bit Newer o t k h = start-near Newer o t k h
-under-read-bit (Older part top) o t k h = omega (arith, top-low part top t, older-start part top o k h, length-bits-few (o .count))
-
 passed : (test : Bool) (n next : ℕ) → unless test (suc n) next ≡ 0 → (test ≡ true) × (next ≡ 0)
 passed true n next h = (refl, h)
 passed false n next h = absurd (suc-ne-zero n h)
