@@ -304,11 +304,11 @@ static size_t two_bytes(uint8_t *samples, size_t room)
 
 static void check_open(void)
 {
-    static const uint8_t opened[COUPLINGNUT_SESSION_SIZE] = {3, 1};
+    static const uint8_t opened[COUPLINGNUT_SESSION_SIZE] = {4, 1};
     struct recording r;
 
     check(open_map(&r) == COUPLINGNUT_DONE, "a good map is opened");
-    check(memcmp(r.session.bytes, opened, sizeof opened) == 0, "the opened session is version 3, at rest with CSB high");
+    check(memcmp(r.session.bytes, opened, sizeof opened) == 0, "the opened session is version 4, at rest with CSB high");
     check(r.active[0x0C] == 0x56 && r.buffer[0x0D] == 0x04, "both banks have the defaults");
     memset(&r, PATTERN, sizeof r);
     check(couplingnut_open(map, sizeof map, &r.session, r.active, 15, r.buffer, 16) == COUPLINGNUT_BAD_BANK &&
@@ -334,10 +334,49 @@ static void check_read(void)
     before.count = 0;
     check(read_into(&r, samples, length, sizeof written - 1) == COUPLINGNUT_SHORT_RECORDS && memcmp(&r, &before, sizeof r) == 0,
           "room for one byte less is refused 6, and all is as it was");
-    r.session.bytes[0] = 2;
+    r.session.bytes[0] = 3;
     before = r;
     check(read_into(&r, samples, length, sizeof r.records) == COUPLINGNUT_BAD_SESSION && memcmp(&r, &before, sizeof r) == 0,
-          "a session of version 2 is refused 1, and comes back as given");
+          "a session of version 3 is refused 1, and comes back as given");
+}
+
+/* The map in version 2 with the flag, and a buffered register at 0x0009 with default 0x11. */
+static void flag_map(uint8_t *flagged, size_t room)
+{
+    static const uint8_t buffered[3] = {3, 0xFF, 0x11};
+    uint64_t length = 0;
+
+    check(couplingnut_to_version_2(map, sizeof map, flagged, room, &length) == COUPLINGNUT_DONE && length == room,
+          "the map is made one of version 2");
+    flagged[5] = 1;
+    memcpy(flagged + 6 + 3 * 0x09, buffered, sizeof buffered);
+}
+
+static void check_rise(void)
+{
+    static const uint8_t data[1] = {0x22};
+    uint8_t flagged[sizeof map + 1];
+    uint8_t samples[51];
+    struct recording r;
+    uint64_t count = 0;
+
+    flag_map(flagged, sizeof flagged);
+    memset(&r, PATTERN, sizeof r);
+    check(couplingnut_send(COUPLINGNUT_WRITE, 0, 0x0009, 1, data, 1, samples, sizeof samples, &count) == COUPLINGNUT_DONE &&
+              couplingnut_open(flagged, sizeof flagged, &r.session, r.active, 16, r.buffer, 16) == COUPLINGNUT_DONE,
+          "a write to a buffered register is sent, and the flagged map is opened");
+    check(couplingnut_read(flagged, sizeof flagged, &r.session, r.active, 16, r.buffer, 16, samples, 50, r.records,
+                           sizeof r.records, &r.count) == COUPLINGNUT_DONE &&
+              r.count == 1 && r.session.bytes[20] == 1 && r.active[0x09] == 0x11 && r.buffer[0x09] == 0x22,
+          "before the select rises the session is armed, and the value waits");
+    check(couplingnut_read(flagged, sizeof flagged, &r.session, r.active, 16, r.buffer, 16, samples + 50, 1, r.records,
+                           sizeof r.records, &r.count) == COUPLINGNUT_DONE &&
+              r.count == 0 && r.session.bytes[20] == 0 && r.active[0x09] == 0x22,
+          "as it rises the value comes in force, without a record");
+    r.session.bytes[20] = 1;
+    check(couplingnut_read(flagged, sizeof flagged, &r.session, r.active, 16, r.buffer, 16, samples, 51, r.records,
+                           sizeof r.records, &r.count) == COUPLINGNUT_BAD_SESSION,
+          "a session that is armed at rest is refused 1");
 }
 
 static void check_next(void)
@@ -569,7 +608,7 @@ static void check_older_refusals(void)
     memset(&r, PATTERN, sizeof r);
     check(couplingnut_open_ad9557(TOP, older_map, sizeof older_map, &r.session, r.active, 16, r.buffer, 16) ==
                   COUPLINGNUT_BAD_MAP_ENTRY &&
-              r.session.bytes[0] == 3 && r.active[0] == PATTERN,
+              r.session.bytes[0] == 4 && r.active[0] == PATTERN,
           "opening as the other part is refused 3");
     check(couplingnut_open_ad9508(TOP + 1, older_map, sizeof older_map, &r.session, r.active, 15, r.buffer, 16) ==
               COUPLINGNUT_BAD_BANK,
@@ -614,6 +653,7 @@ int main(void)
 {
     check_open();
     check_read();
+    check_rise();
     check_next();
     check_convert();
     check_mend();

@@ -25,7 +25,8 @@
  * THE MAP is bytes that say what registers the chip has: 2 bytes, how many bytes follow them; 1 byte, the version, 1 or 2;
  * 2 bytes, the number n of registers, 16 to 8,192; in version 2 a flag byte, 0 or 1; then for each register, from address 0 on,
  * 3 bytes: kind (0 blank, 1 read-only, 2 plain, 3 buffered, 4 control), mask of the bits that can be written, default. Numbers
- * of 2 bytes have the high byte first. Bit 0 of the flags means a transfer as the select rises; no call acts by it yet.
+ * of 2 bytes have the high byte first. With bit 0 of the flags set the end of a frame in which a whole byte went to a buffered
+ * register puts every buffered register in force, as a transfer does; no record is made of it.
  *
  * THE BANKS are two pieces of memory of n bytes each that the caller keeps. `active` holds what is in force, `buffer` what was
  * written to buffered registers and waits for a transfer. Between the calls on one recording nobody else writes them.
@@ -113,9 +114,9 @@ enum { COUPLINGNUT_MOST_READ = 65536 };
 
 /*
  * Where a recording stands between two calls: nothing but these bytes, so it can be copied, compared and stored. Opening makes
- * the first one. Version 3 of the layout, a byte for each field but the two numbers of 2 bytes, high byte first:
+ * the first one. Version 4 of the layout, a byte for each field but the two numbers of 2 bytes, high byte first:
  *
- *      0         the version, 3
+ *      0         the version, 4
  *      1, 2      the last CSB and SCLK
  *      3         the phase: 0 rest, 1 instruction, 2 data
  *      4         how many bits of the present instruction or byte are taken
@@ -126,6 +127,7 @@ enum { COUPLINGNUT_MOST_READ = 65536 };
  *     15 to 18   the first four of them as the present instruction uses them
  *     19         of an older chip in data: how many bytes of its run are left, the one under way included: 1 to 3, or 4 where it streams;
  *                else 0
+ *     20         armed: 1 where the end of the frame under way moves the buffered registers (map flag 1); a newer chip's alone
  *
  * Flags are 0 or 1. Bytes with another version, phase or flag are no session.
  *
@@ -135,7 +137,7 @@ enum { COUPLINGNUT_MOST_READ = 65536 };
  * on the way and wants to begin anew has to send the bytes that are left first. A newer chip's call refuses both with 1, and so does
  * any call a session in data that its chip can't have; at rest and in an instruction a session fits every chip.
  */
-#define COUPLINGNUT_SESSION_SIZE 20
+#define COUPLINGNUT_SESSION_SIZE 21
 typedef struct couplingnut_session {
     uint8_t bytes[COUPLINGNUT_SESSION_SIZE];
 } couplingnut_session;

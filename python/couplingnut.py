@@ -39,7 +39,7 @@ LSB_FIRST, ASCENDING, SINGLE_INSTRUCTION = 1, 2, 4
 PARTS = ('AD9557', 'AD9508')
 STREAMS = 4
 
-SESSION_SIZE = 20
+SESSION_SIZE = 21
 RECORD_SIZE = 7
 MOST_SAMPLES = 48003  # No order gives more.
 MOST_MAP = 24582  # No map is longer.
@@ -132,7 +132,7 @@ class Altered(NamedTuple):
 
 
 class Session:
-    """What the reader keeps between calls, as a value of 20 bytes. Any such bytes make one; the reader refuses those that are none."""
+    """What the reader keeps between calls, as a value of 21 bytes. Any such bytes make one; the reader refuses those that are none."""
     __slots__ = ('_bytes',)
 
     def __init__(self, data):
@@ -208,6 +208,11 @@ class Session:
     def left(self):
         """Of an older chip in data: how many bytes of its run are left, 1 to 3, or STREAMS; else 0."""
         return self._bytes[19]
+
+    @property
+    def armed(self):
+        """Whether the end of this frame moves the buffered registers: the map has the flag, and a byte went to one of them."""
+        return self._bytes[20] == 1
 
     @property
     def stalled(self):

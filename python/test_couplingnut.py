@@ -94,14 +94,26 @@ class Couplingnut(unittest.TestCase):
             left.append((cn.read(map, session, active, buffer, SCRATCH_WRITE), active, buffer))
         self.assertEqual(left[0], left[1])
 
+    def test_rise(self):
+        """with the flag, the end of the frame puts a buffered register in force"""
+        flagged = bytearray(cn.to_version_2(MAP))
+        flagged[5], flagged[33:36] = 1, b'\3\xFF\x11'
+        active, buffer = cn.banks(flagged)
+        samples = cn.send(cn.WRITE, 0, 0x0009, 1, b'\x22')
+        session, records = cn.read(flagged, cn.open(flagged, active, buffer), active, buffer, samples[:-1])
+        self.assertEqual((len(records), session.armed, active[9], buffer[9]), (1, True, 0x11, 0x22))
+        self.assert_refused(1, cn.read, MAP, cn.Session(bytes(cn.open(MAP, *cn.banks(MAP)))[:20] + b'\1'), *cn.banks(MAP), b'')
+        session, records = cn.read(flagged, session, active, buffer, samples[-1:])
+        self.assertEqual((records, session.armed, active[9]), ([], False, 0x22))
+
     def test_open(self):
         """opening"""
         session, active, buffer = opened()
         self.assertEqual(bytes(active), MAP[7::3])
         self.assertEqual(active, buffer)
-        self.assertEqual((session.version, session.last_csb, session.last_sclk, session.phase), (3, 1, 0, 'rest'))
+        self.assertEqual((session.version, session.last_csb, session.last_sclk, session.phase), (4, 1, 0, 'rest'))
         self.assertEqual((session.bits, session.value, session.address, session.direction), (0, 0, 0, cn.WRITE))
-        self.assertFalse(any(session.settings) or any(session.settings_in_use) or session.left or session.stalled)
+        self.assertFalse(any(session.settings) or any(session.settings_in_use) or session.left or session.stalled or session.armed)
 
     def test_open_refused(self):
         """opening refused leaves the banks as they were"""

@@ -1,9 +1,12 @@
 //! The book of document 01's stopped run, written down directly; for older chips as
-//! document 02, Ask 1 has it.
+//! document 02, Ask 1 has it, and with the rise of Ask 4 at its end.
 
 use crate::chip::Chip;
 use crate::generate::maps::entry_at;
 use crate::second::sender::Order;
+
+/// The active bank and the buffer bank.
+pub type Banks = (Vec<u8>, Vec<u8>);
 
 /// The two banks, and the writes of whole bytes by the writing rule.
 struct Book<'a> {
@@ -11,6 +14,8 @@ struct Book<'a> {
     map: &'a [u8],
     active: Vec<u8>,
     buffer: Vec<u8>,
+    /// Whether a byte went to a buffered register, and no soft reset came after it.
+    has_buffered: bool,
 }
 
 impl Book<'_> {
@@ -28,7 +33,10 @@ impl Book<'_> {
         };
         match self.entry(address) {
             Some(&[2, mask, _]) => self.active[address] = masked(self.active[address], mask),
-            Some(&[3, mask, _]) => self.buffer[address] = masked(self.buffer[address], mask),
+            Some(&[3, mask, _]) => {
+                self.buffer[address] = masked(self.buffer[address], mask);
+                self.has_buffered = true;
+            }
             Some(&[4, ..]) if self.is_older && address == 0x0005 && v % 2 == 1 => self.transfer(),
             Some(&[4, ..]) if self.is_older => {}
             Some(&[4, ..]) if address == 0x0000 && v % 2 == 1 && is_mirror(v) => self.reset(),
@@ -42,6 +50,16 @@ impl Book<'_> {
             let default = self.map[entry_at(self.map, address) + 2];
             self.active[address] = default;
             self.buffer[address] = default;
+        }
+        self.has_buffered = false;
+    }
+
+    /// The select rises: with the map's flag, on a newer chip, what was written to
+    /// buffered registers is put in force.
+    fn rise(&mut self) {
+        let is_flagged = self.map[2] == 2 && self.map[5] == 1;
+        if is_flagged && !self.is_older && self.has_buffered {
+            self.transfer();
         }
     }
 
@@ -59,11 +77,24 @@ fn is_mirror(v: u8) -> bool {
     (0..4).all(|i| v >> i & 1 == v >> (7 - i) & 1)
 }
 
-/// The banks after the order's bytes that are whole when s samples were sent.
-pub fn book(chip: &Chip, order: &Order, s: usize) -> (Vec<u8>, Vec<u8>) {
+/// The banks after the order's bytes that are whole when s samples were sent, and
+/// after the rise.
+pub fn book(chip: &Chip, order: &Order, s: usize) -> Banks {
+    let mut book = written(chip, order, s);
+    book.rise();
+    (book.active, book.buffer)
+}
+
+/// The same without the rise: the banks while the select is still low.
+pub fn book_before_the_rise(chip: &Chip, order: &Order, s: usize) -> Banks {
+    let book = written(chip, order, s);
+    (book.active, book.buffer)
+}
+
+fn written<'a>(chip: &'a Chip, order: &Order, s: usize) -> Book<'a> {
     let (active, buffer) = (chip.active.clone(), chip.buffer.clone());
     let is_older = chip.older.is_some();
-    let mut book = Book { is_older, map: &chip.map, active, buffer };
+    let mut book = Book { is_older, map: &chip.map, active, buffer, has_buffered: false };
     // An older chip goes up lowest bit first.
     let ascending = if is_older { order.settings & 1 } else { order.settings & 2 };
     let mut address = order.start as usize;
@@ -75,5 +106,5 @@ pub fn book(chip: &Chip, order: &Order, s: usize) -> (Vec<u8>, Vec<u8>) {
         book.write(address, v);
         address = (address + if ascending == 0 { 0x7FFF } else { 1 }) % 0x8000;
     }
-    (book.active, book.buffer)
+    book
 }

@@ -1,24 +1,26 @@
-//! The session as a caller of the library holds it: twenty bytes, by the table of
-//! the header. This is the second implementation's side of it.
+//! The session as a caller of the library holds it: 21 bytes, by the table of the
+//! header. This is the second implementation's side of it.
 
 use crate::second::session::{Phase, Session, CSB, SCLK};
 use crate::second::settings::Settings;
 
-pub const SESSION_SIZE: usize = 20;
+pub const SESSION_SIZE: usize = 21;
 
 pub type SessionBytes = [u8; SESSION_SIZE];
 
-/// The version of the layout, its first byte. Version 1 had a sixth setting, and
-/// version 2 no bytes left.
-pub const VERSION: u8 = 3;
+/// The version of the layout, its first byte. Version 1 had a sixth setting,
+/// version 2 no bytes left, and version 3 ended before `ARMED_AT`.
+pub const VERSION: u8 = 4;
 /// Where the settings start, and after them the settings in use.
 const SETTINGS_AT: usize = 10;
 const IN_USE_AT: usize = 15;
 /// The bytes left of an older chip's run. Every value of it is a session's.
 pub const LEFT_AT: usize = 19;
+/// Whether the end of the frame moves buffered registers.
+pub const ARMED_AT: usize = 20;
 
-/// The bytes that are 0 or 1: CSB, SCLK, the direction, and every setting.
-pub const FLAGS: [usize; 12] = [1, 2, 9, 10, 11, 12, 13, 14, 15, 16, 17, 18];
+/// The bytes that are 0 or 1: CSB, SCLK, the direction, every setting, and armed.
+pub const FLAGS: [usize; 13] = [1, 2, 9, 10, 11, 12, 13, 14, 15, 16, 17, 18, ARMED_AT];
 /// The byte that is 0 to 2.
 pub const PHASE_AT: usize = 3;
 
@@ -51,6 +53,7 @@ pub fn to_bytes(session: &Session) -> SessionBytes {
         }
     }
     bytes[LEFT_AT] = session.left;
+    bytes[ARMED_AT] = u8::from(session.armed);
     bytes
 }
 
@@ -71,6 +74,7 @@ pub fn from_bytes(bytes: &SessionBytes) -> Option<Session> {
         settings: settings_of(&bytes[SETTINGS_AT..IN_USE_AT]),
         in_use: settings_of(&bytes[IN_USE_AT..LEFT_AT]),
         left: bytes[LEFT_AT],
+        armed: bytes[ARMED_AT] == 1,
     })
 }
 

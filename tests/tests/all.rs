@@ -20,6 +20,7 @@ mod refusals;
 mod registers;
 mod report;
 mod report_page;
+mod rise;
 mod sender;
 mod setup;
 mod stopped_run;

@@ -4,7 +4,7 @@
 use couplingnut_tests::calls::{Call, Comparison, Given};
 use couplingnut_tests::environment::number_from;
 use couplingnut_tests::generate::calls::{Chain, MOST_SAMPLES};
-use couplingnut_tests::generate::maps::{good_map, simple_map};
+use couplingnut_tests::generate::maps::{good_map, simple_map, with_flags};
 use couplingnut_tests::generate::random::Random;
 use couplingnut_tests::generate::sessions::{every_piece, with_every_setting};
 use couplingnut_tests::generate::traces::{clocks, trace};
@@ -67,18 +67,21 @@ fn compare_chain(comparison: &mut Comparison, mut chain: Chain) {
 }
 
 /// Every phase, number of bits, direction, setting, setting in use and level of
-/// SCLK, read on for a byte or two; each twice, with other contents.
+/// SCLK, armed and not, read on for a byte or two; each with the map's flag and
+/// without it, and with other contents.
 #[test]
 fn sessions_in_every_phase_and_setting_are_read_on() {
     let mut comparison = Comparison::new("calls::sessions_in_every_phase_and_setting_are_read_on");
     let mut random = Random::new(1);
     let map = good_map(&mut random, 24);
-    let sessions = || every_piece().into_iter().flat_map(with_every_setting);
-    for (seed, shape) in (0..).zip(sessions().chain(sessions())) {
+    let with_flags = [1, 0].map(|flags| with_flags(&map, flags));
+    let sessions =
+        |map| every_piece().into_iter().flat_map(with_every_setting).map(move |s| (map, s));
+    for (seed, (map, shape)) in (0..).zip(with_flags.iter().flat_map(sessions)) {
         comparison.begin(seed, against(seed));
         let mut random = Random::new(seed);
         let session = with_contents(&mut random, shape);
-        let mut given = Given::opened(&map);
+        let mut given = Given::opened(map);
         given.session = to_bytes(&session);
         given.active = random.bytes(24);
         given.buffer = random.bytes(24);
@@ -89,7 +92,7 @@ fn sessions_in_every_phase_and_setting_are_read_on() {
             assert_eq!(comparison.call(call, &given).number, 0, "{session:?}");
         }
     }
-    let (at_rest, in_a_piece) = (32 * 2, (16 + 8 + 8) * 32 * 16 * 2);
+    let (at_rest, in_a_piece) = (32 * 2, 2 * (16 + 8 + 8) * 32 * 16 * 2);
     assert_eq!(comparison.tally.calls, 2 * 2 * (at_rest + in_a_piece));
     comparison.tally.assert_records(6, 100);
 }

@@ -9,7 +9,7 @@ use couplingnut_tests::generate::maps::{
 use couplingnut_tests::program::{busread, output_of, Feed};
 use couplingnut_tests::second::report::report;
 use couplingnut_tests::second::sender::Order;
-use couplingnut_tests::second::session::next_address;
+use couplingnut_tests::second::session::{next_address, Session};
 use couplingnut_tests::second::Answer;
 
 /// The samples that make these bits one frame: "for each bit b, 4b then 4b + 2".
@@ -80,8 +80,8 @@ fn smallest_and_largest_map_with_a_flag_byte() {
     }
 }
 
-/// The printed case with a map of version 2: the flag does nothing yet, and a
-/// reserved one is refused.
+/// The printed case with a map of version 2: it has nothing buffered that the flag
+/// could move, and a reserved flag is refused.
 #[test]
 fn the_printed_case_with_a_flag_byte() {
     let samples = write_of(0x000A, &[0x3C]);
@@ -249,6 +249,35 @@ fn a_buffered_register_waits_for_the_transfer() {
         "records 7 samples 357 slow 0\n",
     ];
     assert_text(&map, &steps.concat(), &lines.join("\n"));
+}
+
+/// The same map with the flag (Ask 4 of document 02): the end of the frame is the
+/// transfer, whole or not, and is not recorded.
+#[test]
+fn a_buffered_register_waits_for_the_rise() {
+    let mut map = with_flags(&simple_map(17), 1);
+    set_entry(&mut map, 0x0010, [3, 0xFF, 0x11]);
+
+    let mut chip = Chip::opened(&map);
+    assert_eq!(chip.write(0x0010, &[0x22]), ["W 0010 22 22 2 33"]);
+    assert_eq!((chip.active[0x0010], chip.session), (0x22, Session::opened()));
+    let samples = [write_of(0x0010, &[0x22]), read_of(0x0010)].concat();
+    let lines = ["map 17", "W 0010 22 22 2 33", "R 0010 22 00 1 00"];
+    assert_text(&map, &samples, &(lines.join("\n") + "\nrecords 2 samples 102 slow 0\n"));
+
+    // The select rises inside the byte after it, at each of its bits.
+    let longer = write_of(0x0010, &[0x22, 0x00]);
+    for bits in 1..=7 {
+        let broken = [&longer[..49 + 2 * bits], &[0x01]].concat();
+        let cut = format!("C 000F {bits:02X} 01 0 00");
+        let mut chip = Chip::opened(&map);
+        assert_eq!(chip.read(&broken), ["W 0010 22 22 2 33", &cut]);
+        assert_eq!((chip.active[0x0010], chip.session), (0x22, Session::opened()));
+        let samples = [broken, read_of(0x0010)].concat();
+        let lines = ["map 17", "W 0010 22 22 2 33", &cut, "R 0010 22 00 1 00"].join("\n");
+        let expected = format!("{lines}\nrecords 3 samples {} slow 0\n", samples.len());
+        assert_text(&map, &samples, &expected);
+    }
 }
 
 #[test]

@@ -1,12 +1,14 @@
 //! The bytes of a session: the header's table, by hand and by the library.
 
 use couplingnut_tests::calls::{Call, Comparison, Given};
-use couplingnut_tests::generate::maps::simple_map;
+use couplingnut_tests::generate::maps::{set_entry, simple_map, with_flags};
 use couplingnut_tests::generate::older::maps::simple_older_map;
 use couplingnut_tests::generate::random::Random;
 use couplingnut_tests::generate::sessions::{every_piece, sound_session, with_every_setting};
 use couplingnut_tests::guarded::Against;
-use couplingnut_tests::layout::{from_bytes, to_bytes, SessionBytes, FLAGS, LEFT_AT, PHASE_AT};
+use couplingnut_tests::layout::{
+    from_bytes, to_bytes, SessionBytes, FLAGS, LEFT_AT, PHASE_AT, VERSION,
+};
 use couplingnut_tests::second::older::{Older, Part};
 use couplingnut_tests::second::session::{Phase, Session, SCLK};
 use couplingnut_tests::second::settings::Settings;
@@ -37,9 +39,10 @@ fn the_bytes_of_a_session_are_by_the_table() {
         settings: Settings::ASCENDING.with(Settings::BUFFER_READBACK),
         in_use: Settings::LSB_FIRST.with(Settings::SINGLE_INSTRUCTION),
         left: 3,
+        armed: true,
     };
     let bytes: SessionBytes =
-        [3, 0, 1, 2, 5, 0x00, 0x13, 0x4A, 0x53, 1, 0, 1, 0, 0, 1, 1, 0, 0, 1, 3];
+        [4, 0, 1, 2, 5, 0x00, 0x13, 0x4A, 0x53, 1, 0, 1, 0, 0, 1, 1, 0, 0, 1, 3, 1];
     assert_eq!(to_bytes(&session), bytes);
     assert_eq!(from_bytes(&bytes), Some(session));
     let with = |at: usize, value| {
@@ -47,7 +50,7 @@ fn the_bytes_of_a_session_are_by_the_table() {
         other[at] = value;
         from_bytes(&other)
     };
-    for value in (0..=255).filter(|&value| value != 3) {
+    for value in (0..=255).filter(|&value| value != VERSION) {
         assert_eq!(with(0, value), None, "version {value}");
     }
     for left in 0..=255 {
@@ -59,7 +62,7 @@ fn the_bytes_of_a_session_are_by_the_table() {
     }
 }
 
-/// The last byte, which an older chip's runs have: bytes left, the present one
+/// Byte 19, which an older chip's runs have: bytes left, the present one
 /// included, or 4 for a stream; and the sessions that only an older chip has.
 #[test]
 fn the_bytes_left_have_their_place() {
@@ -75,19 +78,46 @@ fn the_bytes_left_have_their_place() {
         given.go_on(&left);
     };
     let counted = [&[0][..], &clocked("1 10 0000000100110", 4)].concat();
-    leaves(&counted, [3, 0, 1, 2, 0, 0, 0, 0, 0x26, 1, 0, 0, 0, 0, 0, 0, 0, 0, 0, 3]);
+    leaves(&counted, [4, 0, 1, 2, 0, 0, 0, 0, 0x26, 1, 0, 0, 0, 0, 0, 0, 0, 0, 0, 3, 0]);
     let byte = clocked("0000 0000", 4);
-    leaves(&byte, [3, 0, 1, 2, 0, 0, 0, 0, 0x25, 1, 0, 0, 0, 0, 0, 0, 0, 0, 0, 2]);
+    leaves(&byte, [4, 0, 1, 2, 0, 0, 0, 0, 0x25, 1, 0, 0, 0, 0, 0, 0, 0, 0, 0, 2, 0]);
     // Waiting, and going on.
-    leaves(&[0x01], [3, 1, 0, 2, 0, 0, 0, 0, 0x25, 1, 0, 0, 0, 0, 0, 0, 0, 0, 0, 2]);
-    leaves(&[0x00], [3, 0, 0, 2, 0, 0, 0, 0, 0x25, 1, 0, 0, 0, 0, 0, 0, 0, 0, 0, 2]);
-    leaves(&byte, [3, 0, 1, 2, 0, 0, 0, 0, 0x24, 1, 0, 0, 0, 0, 0, 0, 0, 0, 0, 1]);
+    leaves(&[0x01], [4, 1, 0, 2, 0, 0, 0, 0, 0x25, 1, 0, 0, 0, 0, 0, 0, 0, 0, 0, 2, 0]);
+    leaves(&[0x00], [4, 0, 0, 2, 0, 0, 0, 0, 0x25, 1, 0, 0, 0, 0, 0, 0, 0, 0, 0, 2, 0]);
+    leaves(&byte, [4, 0, 1, 2, 0, 0, 0, 0, 0x24, 1, 0, 0, 0, 0, 0, 0, 0, 0, 0, 1, 0]);
     // Passing over, and at rest.
-    leaves(&byte, [3, 0, 1, 0, 0, 0, 0, 0, 0, 0, 0, 0, 0, 0, 0, 0, 0, 0, 0, 0]);
-    leaves(&[0x01], [3, 1, 0, 0, 0, 0, 0, 0, 0, 0, 0, 0, 0, 0, 0, 0, 0, 0, 0, 0]);
+    leaves(&byte, [4, 0, 1, 0, 0, 0, 0, 0, 0, 0, 0, 0, 0, 0, 0, 0, 0, 0, 0, 0, 0]);
+    leaves(&[0x01], [4, 1, 0, 0, 0, 0, 0, 0, 0, 0, 0, 0, 0, 0, 0, 0, 0, 0, 0, 0, 0]);
     let streaming = [&[0][..], &clocked("0 11 0000000100110", 4)].concat();
-    leaves(&streaming, [3, 0, 1, 2, 0, 0, 0, 0, 0x26, 0, 0, 0, 0, 0, 0, 0, 0, 0, 0, 4]);
-    leaves(&byte, [3, 0, 1, 2, 0, 0, 0, 0, 0x25, 0, 0, 0, 0, 0, 0, 0, 0, 0, 0, 4]);
+    leaves(&streaming, [4, 0, 1, 2, 0, 0, 0, 0, 0x26, 0, 0, 0, 0, 0, 0, 0, 0, 0, 0, 4, 0]);
+    leaves(&byte, [4, 0, 1, 2, 0, 0, 0, 0, 0x25, 0, 0, 0, 0, 0, 0, 0, 0, 0, 0, 4, 0]);
+}
+
+/// Byte 20: set with the whole byte of a buffered register, in a map with the flag,
+/// and clear again at the end of the frame.
+#[test]
+fn the_mark_of_an_armed_session_has_its_place() {
+    let mut comparison = Comparison::new("layout::the_mark_of_an_armed_session_has_its_place");
+    let mut map = with_flags(&simple_map(17), 1);
+    set_entry(&mut map, 0x0010, [3, 0xFF, 0x11]);
+    let mut given = Given::opened(&map);
+    let mut leaves = |samples: &[u8], expected: SessionBytes| {
+        given.samples = samples.to_vec();
+        given.records = vec![0xEE; 60];
+        comparison.begin(0, Against::PageAfter);
+        let left = comparison.call(Call::Read, &given);
+        assert_eq!((left.number, left.session), (0, expected));
+        given.go_on(&left);
+    };
+    let instruction = [&[0][..], &clocked("0000 0000 0001 0000", 4)].concat();
+    leaves(&instruction, [4, 0, 1, 2, 0, 0, 0, 0, 0x10, 0, 0, 0, 0, 0, 0, 0, 0, 0, 0, 0, 0]);
+    let bits = clocked("0010 001", 4);
+    leaves(&bits, [4, 0, 1, 2, 7, 0, 0x11, 0, 0x10, 0, 0, 0, 0, 0, 0, 0, 0, 0, 0, 0, 0]);
+    let bits = clocked("0", 4);
+    leaves(&bits, [4, 0, 1, 2, 0, 0, 0, 0, 0x0F, 0, 0, 0, 0, 0, 0, 0, 0, 0, 0, 0, 1]);
+    let bits = clocked("11", 4);
+    leaves(&bits, [4, 0, 1, 2, 2, 0, 3, 0, 0x0F, 0, 0, 0, 0, 0, 0, 0, 0, 0, 0, 0, 1]);
+    leaves(&[0x00, 0x01], [4, 1, 0, 0, 0, 0, 0, 0, 0, 0, 0, 0, 0, 0, 0, 0, 0, 0, 0, 0, 0]);
 }
 
 /// "For each bit b, 4b then 4b + 2", on the line of this level.
@@ -112,26 +142,26 @@ fn every_field_has_its_place() {
         assert_eq!((left.number, left.session), (0, expected));
         given.go_on(&left);
     };
-    leaves(&[], [3, 1, 0, 0, 0, 0, 0, 0, 0, 0, 0, 0, 0, 0, 0, 0, 0, 0, 0, 0]);
-    leaves(&[0x03], [3, 1, 1, 0, 0, 0, 0, 0, 0, 0, 0, 0, 0, 0, 0, 0, 0, 0, 0, 0]);
+    leaves(&[], [4, 1, 0, 0, 0, 0, 0, 0, 0, 0, 0, 0, 0, 0, 0, 0, 0, 0, 0, 0, 0]);
+    leaves(&[0x03], [4, 1, 1, 0, 0, 0, 0, 0, 0, 0, 0, 0, 0, 0, 0, 0, 0, 0, 0, 0, 0]);
     // 0x42 to 0x0000: LSB first, in use from the next instruction on.
     let frame = [&[0][..], &clocked("0000 0000 0000 0000 0100 0010", SDIO), &[1]].concat();
-    leaves(&frame, [3, 1, 0, 0, 0, 0, 0, 0, 0, 0, 1, 0, 0, 0, 0, 0, 0, 0, 0, 0]);
-    leaves(&[0x00], [3, 0, 0, 1, 0, 0, 0, 0, 0, 0, 1, 0, 0, 0, 0, 1, 0, 0, 0, 0]);
+    leaves(&frame, [4, 1, 0, 0, 0, 0, 0, 0, 0, 0, 1, 0, 0, 0, 0, 0, 0, 0, 0, 0, 0]);
+    leaves(&[0x00], [4, 0, 0, 1, 0, 0, 0, 0, 0, 0, 1, 0, 0, 0, 0, 1, 0, 0, 0, 0, 0]);
     // 0x24 and then 0x18, lowest bit first, each alone.
     let frame = [&clocked("0000 0000 0000 0000 0010 0100", SDIO)[..], &[1, 0]].concat();
-    leaves(&frame, [3, 0, 0, 1, 0, 0, 0, 0, 0, 0, 0, 1, 0, 0, 0, 0, 1, 0, 0, 0]);
+    leaves(&frame, [4, 0, 0, 1, 0, 0, 0, 0, 0, 0, 0, 1, 0, 0, 0, 0, 1, 0, 0, 0, 0]);
     let frame = [&clocked("0000 0000 0000 0000 0001 1000", SDIO)[..], &[1, 0]].concat();
-    leaves(&frame, [3, 0, 0, 1, 0, 0, 0, 0, 0, 0, 0, 0, 1, 0, 0, 0, 0, 1, 0, 0]);
+    leaves(&frame, [4, 0, 0, 1, 0, 0, 0, 0, 0, 0, 0, 0, 1, 0, 0, 0, 0, 1, 0, 0, 0]);
     // 0xB0 to 0x0001: the other two. Bit 4 is none of them.
     let frame = [&clocked("0000 0000 0000 0001 1011 0000", SDIO)[..], &[1]].concat();
-    leaves(&frame, [3, 1, 0, 0, 0, 0, 0, 0, 0, 0, 0, 0, 1, 1, 1, 0, 0, 0, 0, 0]);
-    leaves(&[0x00], [3, 0, 0, 1, 0, 0, 0, 0, 0, 0, 0, 0, 1, 1, 1, 0, 0, 1, 1, 0]);
+    leaves(&frame, [4, 1, 0, 0, 0, 0, 0, 0, 0, 0, 0, 0, 1, 1, 1, 0, 0, 0, 0, 0, 0]);
+    leaves(&[0x00], [4, 0, 0, 1, 0, 0, 0, 0, 0, 0, 0, 0, 1, 1, 1, 0, 0, 1, 1, 0, 0]);
     // A read of 0x4A53, bit by bit; then two bits on SDO.
     let bits = clocked("1100 1010 0101 00", SDIO);
-    leaves(&bits, [3, 0, 1, 1, 14, 0x32, 0x94, 0, 0, 0, 0, 0, 1, 1, 1, 0, 0, 1, 1, 0]);
+    leaves(&bits, [4, 0, 1, 1, 14, 0x32, 0x94, 0, 0, 0, 0, 0, 1, 1, 1, 0, 0, 1, 1, 0, 0]);
     let bits = clocked("11", SDIO);
-    leaves(&bits, [3, 0, 1, 2, 0, 0, 0, 0x4A, 0x53, 1, 0, 0, 1, 1, 1, 0, 0, 1, 1, 0]);
+    leaves(&bits, [4, 0, 1, 2, 0, 0, 0, 0x4A, 0x53, 1, 0, 0, 1, 1, 1, 0, 0, 1, 1, 0, 0]);
     let bits = [&clocked("10", SDO)[..], &[0]].concat();
-    leaves(&bits, [3, 0, 0, 2, 2, 0, 2, 0x4A, 0x53, 1, 0, 0, 1, 1, 1, 0, 0, 1, 1, 0]);
+    leaves(&bits, [4, 0, 0, 2, 2, 0, 2, 0x4A, 0x53, 1, 0, 0, 1, 1, 1, 0, 0, 1, 1, 0, 0]);
 }

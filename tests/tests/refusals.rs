@@ -8,8 +8,11 @@ use couplingnut_tests::generate::random::Random;
 use couplingnut_tests::generate::sessions::{every_piece, unsound_sessions};
 use couplingnut_tests::generate::traces::trace;
 use couplingnut_tests::guarded::Against;
-use couplingnut_tests::layout::{to_bytes, SessionBytes, FLAGS, LEFT_AT, PHASE_AT, SESSION_SIZE};
+use couplingnut_tests::layout::{
+    to_bytes, SessionBytes, ARMED_AT, FLAGS, LEFT_AT, PHASE_AT, SESSION_SIZE, VERSION,
+};
 use couplingnut_tests::second::reader::{most_records, RECORD};
+use couplingnut_tests::second::session::Phase;
 
 /// Calls that nothing refuses, with records, and then every set of reasons.
 #[test]
@@ -36,8 +39,8 @@ fn the_lowest_number_that_applies_is_given() {
     }
 }
 
-/// At rest, last SCLK low, all settings clear.
-const OPENED: SessionBytes = [3, 1, 0, 0, 0, 0, 0, 0, 0, 0, 0, 0, 0, 0, 0, 0, 0, 0, 0, 0];
+/// At rest, last SCLK low, all settings clear, not armed.
+const OPENED: SessionBytes = [4, 1, 0, 0, 0, 0, 0, 0, 0, 0, 0, 0, 0, 0, 0, 0, 0, 0, 0, 0, 0];
 
 /// A call that is done and has a record.
 fn good_call(random: &mut Random) -> Given {
@@ -69,13 +72,14 @@ fn every_byte_of_a_session_is_looked_at() {
             for value in 0..=255 {
                 given.session = sound;
                 given.session[at] = value;
-                let no_session = at == 0 && value != 3
+                let refused = at == 0 && value != VERSION
                     || at == PHASE_AT && value > 2
                     || FLAGS.contains(&at) && value > 1
+                    || at == ARMED_AT && value != 0 && piece.phase == Phase::Rest
                     || at == LEFT_AT && value != 0;
                 for call in Call::READING {
                     let left = comparison.call(call, &given);
-                    assert!(left.number == 1 || !no_session, "byte {at} is {value}");
+                    assert!(left.number == 1 || !refused, "byte {at} is {value}");
                     assert!(left.number <= 1, "nothing else is wrong");
                 }
             }
@@ -85,7 +89,8 @@ fn every_byte_of_a_session_is_looked_at() {
 }
 
 /// Bytes of the layout's version 1, which had the slow setting in byte 15, are no
-/// session, whatever they held; nor are those of version 2, which ended at byte 18.
+/// session, whatever they held; nor are those of version 2, which ended at byte 18,
+/// and of version 3, which ended at byte 19.
 #[test]
 fn old_bytes_are_refused_with_1() {
     let mut comparison = Comparison::new("refusals::old_bytes_are_refused_with_1");
@@ -98,9 +103,12 @@ fn old_bytes_are_refused_with_1() {
         [2, 1, 0, 0, 0, 0, 0, 0, 0, 0, 0, 0, 0, 0, 0, 0, 0, 0, 0, 0],
         [2, 0, 1, 1, 3, 0, 5, 0, 0, 0, 1, 0, 0, 0, 0, 1, 0, 0, 0, 0],
         [2, 0, 0, 2, 2, 0, 2, 0x4A, 0x53, 1, 0, 0, 1, 1, 1, 0, 0, 1, 1, 0],
+        [3, 1, 0, 0, 0, 0, 0, 0, 0, 0, 0, 0, 0, 0, 0, 0, 0, 0, 0, 0],
+        [3, 0, 1, 1, 3, 0, 5, 0, 0, 0, 1, 0, 0, 0, 0, 1, 0, 0, 0, 0],
+        [3, 0, 0, 2, 2, 0, 2, 0x4A, 0x53, 1, 0, 0, 1, 1, 1, 0, 0, 1, 1, 0],
     ] {
         let mut given = Given::opened(&simple_map(16));
-        given.session = old;
+        given.session[..20].copy_from_slice(&old);
         for call in Call::READING {
             assert_eq!(comparison.call(call, &given), given.untouched(1));
         }

@@ -1,8 +1,9 @@
 //! The stopped run of document 01: whatever calls read it, and wherever it is
-//! stopped, both banks end as the book says. The second implementation sends and
-//! reads it, call by call beside the library; and the library does all alone.
+//! stopped, both banks end as the book says, and before the raise as the book without
+//! its last step (document 02, Ask 4). The second implementation sends and reads it,
+//! call by call beside the library; and the library does all alone.
 
-use couplingnut_tests::book::book;
+use couplingnut_tests::book::{book, book_before_the_rise, Banks};
 use couplingnut_tests::calls::{Call, Memory};
 use couplingnut_tests::chip::{sent, Chip};
 use couplingnut_tests::generate::orders::{any_write, chip_at_rest};
@@ -11,7 +12,7 @@ use couplingnut_tests::layout::from_bytes;
 use couplingnut_tests::library;
 use couplingnut_tests::second::reader::RECORD;
 use couplingnut_tests::second::sender::Order;
-use couplingnut_tests::second::session::CSB;
+use couplingnut_tests::second::session::{Phase, CSB};
 use couplingnut_tests::second::Answer;
 
 /// Who sends and reads the run.
@@ -87,10 +88,24 @@ fn refused_call(random: &mut Random, side: &mut Side, chip: &mut Chip, samples: 
     }
 }
 
-/// Runs stopped anywhere, read by lists of calls.
+/// What the book has before the raise. An order's own last sample is a rise.
+fn before_the_raise(chip: &Chip, order: &Order, all: &[u8], s: usize) -> Banks {
+    if s < all.len() {
+        book_before_the_rise(chip, order, s)
+    } else {
+        book(chip, order, s)
+    }
+}
+
+fn assert_banks(chip: &Chip, (active, buffer): &Banks, order: &Order, s: usize) {
+    assert_eq!((&chip.active, &chip.buffer), (active, buffer), "{order:?} at {s}");
+}
+
+/// Runs stopped anywhere, read by lists of calls; the raise is in a call of its own,
+/// or in the last one.
 fn runs_end_as_the_book_says(side: &mut Side, seed: u64) {
     let mut random = Random::new(seed);
-    let mut changed = 0;
+    let (mut changed, mut moved) = (0, 0);
     for _ in 0..20_000 {
         let (settings, start, data) = any_write(&mut random);
         let order = Order { direction: 0, settings, start, count: data.len() as u64, data: &data };
@@ -99,13 +114,19 @@ fn runs_end_as_the_book_says(side: &mut Side, seed: u64) {
         let all = side.send(&order);
         let s = random.below(all.len() + 1);
         let raise = CSB | random.byte() & 0x0E;
-        read_by_calls(&mut random, side, &mut chip, &[&all[..s], &[raise]].concat());
+        let (first, rest) = all[..s].split_at(if random.coin() { s } else { 0 });
+        read_by_calls(&mut random, side, &mut chip, first);
+        let waiting = before_the_raise(&before, &order, &all, first.len());
+        assert_banks(&chip, &waiting, &order, first.len());
+        read_by_calls(&mut random, side, &mut chip, &[rest, &[raise]].concat());
 
-        let expected = book(&before, &order, s);
-        assert_eq!((&chip.active, &chip.buffer), (&expected.0, &expected.1), "{order:?} at {s}");
+        assert_banks(&chip, &book(&before, &order, s), &order, s);
+        assert_eq!((chip.session.phase, chip.session.armed), (Phase::Rest, false));
         changed += usize::from(before.active != chip.active || before.buffer != chip.buffer);
+        moved += usize::from(chip.active != book_before_the_rise(&before, &order, s).0);
     }
     assert!(changed > 4_000, "only {changed} runs changed a bank");
+    assert!(moved > 1_000, "only {moved} runs moved a byte at the rise");
 }
 
 /// Every stop of a few runs, so that no boundary is left to chance.
@@ -118,11 +139,16 @@ fn stops_end_as_the_book_says(side: &mut Side, seed: u64) {
         let all = side.send(&order);
         for s in 0..=all.len() {
             let mut stopped = chip.clone();
+            let mut records = [0; RECORD * 13];
+            assert_eq!(side.call(&mut stopped, &all[..s], &mut records).number, 0);
+            assert_banks(&stopped, &before_the_raise(&chip, &order, &all, s), &order, s);
+            assert_eq!(side.call(&mut stopped, &[CSB], &mut records).number, 0);
+            assert_banks(&stopped, &book(&chip, &order, s), &order, s);
+
+            let mut at_once = chip.clone();
             let samples = [&all[..s], &[CSB]].concat();
-            let answer = side.call(&mut stopped, &samples, &mut [0; RECORD * 13]);
-            assert_eq!(answer.number, 0);
-            let expected = book(&chip, &order, s);
-            assert_eq!((stopped.active, stopped.buffer), expected, "{order:?} at {s}");
+            assert_eq!(side.call(&mut at_once, &samples, &mut records).number, 0);
+            assert_eq!(at_once, stopped, "{order:?} at {s}");
         }
     }
 }

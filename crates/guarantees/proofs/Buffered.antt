@@ -1,7 +1,7 @@
 -- One buffered register through a list of writes that is clear of 0x0000: its active byte changes at a transfer alone, and there
 -- it takes its buffer byte.
 use mathlib.Core.Path.{_≡_, refl, ap, sym, _∙_}
-use mathlib.Core.Bool.{Bool, true, false, cond, not, _&&_, and-assoc}
+use mathlib.Core.Bool.{Bool, true, false, cond, not, _&&_, _||_, and-assoc, or-false}
 use mathlib.Core.List.{List, [], _∷_, _++_}
 use Prim.Native.Nat.{ℕ}
 use native.Mathlib.Omega.{arith}
@@ -23,11 +23,12 @@ use Rattle.registers.proofs.Laws.{in-banks, getD-transfer}
 use Rattle.writing.specs.declared.Effect.{Effect}
 use Rattle.writing.specs.declared.Effect.the-variants.{Control, Transfer}
 use Rattle.writing.specs.Effect.{controlEffect, effectOf}
-use Rattle.writing.specs.Write.{applied, writeBanks}
+use Rattle.writing.specs.Write.{stagesAt, applied, writeBanks}
+use Rattle.writing.specs.Rise.{movesAtRise, armedBy}
 use Rattle.writing.proofs.Laws.{mapped-write}
 use Rattle.order.specs.Order.{RunByte}
-use Rattle.guarantees.specs.Book.{writeAll, setsAnything, clearOfSettings}
-use Rattle.guarantees.specs.InForce.{isTransfer, anyTransfer}
+use Rattle.guarantees.specs.Book.{writeAll, armedAll, setsAnything, clearOfSettings}
+use Rattle.guarantees.specs.InForce.{isTransfer, anyTransfer, anyBuffered}
 
 -- the byte in force at an address
 abbrev pub inForce : ℕ → Banks → ℕ
@@ -87,7 +88,7 @@ module _ (c : Chip) (m : List ℕ) (a : ℕ) (kind : registerAt m a .kind ≡ bu
       elsewhere : eqb there plain ≡ true → a ≡ p .address → ⊥
       elsewhere t e = omega (arith, eqb-true there plain t, ap (λ (x : ℕ). registerAt m x .kind) e)
 
-  transferred-at : (b : Banks) → Mapped m b → inForce a (transferred m b) ≡ getD (b .buffer) a 0
+  pub transferred-at : (b : Banks) → Mapped m b → inForce a (transferred m b) ≡ getD (b .buffer) a 0
   unfolding transferred
   transferred-at b h = getD-transfer m (b .active) (b .buffer) a (in-banks h kind (λ z. omega arith) .0) ∙ rw kind
 
@@ -104,7 +105,7 @@ unfolding writeAll
 write-append c m [] qs b = refl
 write-append c m (p ∷ ps) qs b = write-append c m ps qs (writeBanks c m b (p .address) (p .byte))
 
-mapped-all : (c : Chip) (m : List ℕ) (ps : List RunByte) (b : Banks) → Mapped m b → Mapped m (writeAll c m ps b)
+pub mapped-all : (c : Chip) (m : List ℕ) (ps : List RunByte) (b : Banks) → Mapped m b → Mapped m (writeAll c m ps b)
 unfolding writeAll
 mapped-all c m [] b h = h
 mapped-all c m (p ∷ ps) b h = mapped-all c m ps (writeBanks c m b (p .address) (p .byte)) (mapped-write h c (p .address) (p .byte))
@@ -141,3 +142,41 @@ module _ (c : Chip) (m : List ℕ) (a : ℕ) (kind : registerAt m a .kind ≡ bu
       clear-later =
           and-right (not (setsAnything c p)) (clearOfSettings c later)
           (and-right (clearOfSettings c before) (clearOfSettings c (p ∷ later)) (sym (clear-append c before (p ∷ later)) ∙ clear))
+
+-- ---- which runs arm a session: one of its bytes goes to a buffered register, and the rise can move bytes
+
+armed-one : (c : Chip) (m : List ℕ) (b : Banks) (armed : Bool) (p : RunByte) → setsAnything c p ≡ false
+    → armedBy c m armed (effectOf c (registerAt m (p .address)) (stagesAt b (p .address)) (p .address) (p .byte))
+    ≡ (armed || (eqb (registerAt m (p .address) .kind) buffered && movesAtRise c m))
+unfolding armedBy effectOf controlEffect
+armed-one c m b armed p clear = by (eqb kind plain) (eqb kind buffered) (eqb kind control) (isTransfer c p) refl refl refl refl
+  where
+    kind : ℕ
+    kind = registerAt m (p .address) .kind
+
+    by : (f g h t : Bool) → eqb kind plain ≡ f → eqb kind buffered ≡ g → eqb kind control ≡ h → isTransfer c p ≡ t
+        → armedBy c m armed (effectOf c (registerAt m (p .address)) (stagesAt b (p .address)) (p .address) (p .byte))
+        ≡ (armed || (eqb kind buffered && movesAtRise c m))
+    by true g h t ef eg eh et = rw (eqb-true kind plain ef) (sym (or-false armed))
+    by false true h t ef eg eh et = rw (ef, eg) refl
+    by false false true true ef eg eh et = rw (ef, eg, eh, no-reset c p clear, et) (sym (or-false armed))
+    by false false true false ef eg eh et = rw (ef, eg, eh, no-reset c p clear, et) (sym (or-false armed))
+    by false false false t ef eg eh et = rw (ef, eg, eh) (sym (or-false armed))
+
+one-or-later : (k x y z : Bool) → ((k || (x && z)) || (y && z)) ≡ (k || ((x || y) && z))
+one-or-later true x y z = refl
+one-or-later false true true true = refl
+one-or-later false true true false = refl
+one-or-later false true false true = refl
+one-or-later false true false false = refl
+one-or-later false false y z = refl
+
+pub armed-all : (c : Chip) (m : List ℕ) (ps : List RunByte) (b : Banks) (armed : Bool) → clearOfSettings c ps ≡ true
+    → armedAll c m ps b armed ≡ (armed || (anyBuffered m ps && movesAtRise c m))
+unfolding armedAll clearOfSettings anyBuffered
+armed-all c m [] b armed clear = sym (or-false armed)
+armed-all c m (p ∷ ps) b armed clear =
+    armed-all c m ps (writeBanks c m b (p .address) (p .byte)) _ (and-right (not (setsAnything c p)) (clearOfSettings c ps) clear)
+    ∙ ap (λ (k : Bool). k || (anyBuffered m ps && movesAtRise c m))
+    (armed-one c m b armed p (not-true (setsAnything c p) (and-left (not (setsAnything c p)) (clearOfSettings c ps) clear)))
+    ∙ one-or-later armed (eqb (registerAt m (p .address) .kind) buffered) (anyBuffered m ps) (movesAtRise c m)

@@ -1,12 +1,16 @@
 -- A list of calls is one run of the done calls' samples: a refused call leaves all as it was.
-use Prim.Native.Nat.{ℕ}
+use Prim.Native.Nat.{ℕ, _+_}
 use mathlib.Core.Path.{_≡_, refl, sym, ap, _∙_}
 use mathlib.Core.Bool.{Bool, true, false, cond}
-use mathlib.Core.List.{List, [], _∷_, _++_}
+use mathlib.Core.List.{List, [], _∷_, _++_, append-assoc}
+use native.Mathlib.Nat.{add-assoc, zero-add}
 use lib.Dec.{eqb}
 use lib.ListN.{length}
 use Rattle.chip.specs.declared.Chip.{Chip}
-use Rattle.run.specs.Reading.{World, worldAfter, runOf}
+use Rattle.session.specs.Step.{stepOf}
+use Rattle.session.specs.Event.{eventOf}
+use Rattle.records.specs.Records.{recordOf, recordsIn}
+use Rattle.run.specs.Reading.{World, worldAfter, runOf, recordsOf, recordCount}
 use Rattle.refusals.specs.Numbers.{readNumber}
 use Rattle.reader.specs.Calls.{readOf}
 use Rattle.guarantees.specs.Calls.{Call, outcomeOf, isDone, afterCalls, joined}
@@ -15,6 +19,21 @@ pub run-append : (c : Chip) (m : List ℕ) (w : World) (xs ys : List ℕ) → ru
 unfolding runOf
 run-append c m w [] ys = refl
 run-append c m w (x ∷ xs) ys = run-append c m (worldAfter c m w x) xs ys
+
+pub records-append : (c : Chip) (m : List ℕ) (w : World) (xs ys : List ℕ) → recordsOf c m w (xs ++ ys) ≡ recordsOf c m w xs ++ recordsOf c m (runOf c m w xs) ys
+unfolding recordsOf runOf
+records-append c m w [] ys = refl
+records-append c m w (x ∷ xs) ys =
+    rw (records-append c m (worldAfter c m w x) xs ys)
+    (sym (append-assoc (recordOf c m (w .banks) (w .session .port .settings) (eventOf c (w .session .port) x)) (recordsOf c m (worldAfter c m w x) xs) _))
+
+pub count-append : (c : Chip) (m : List ℕ) (w : World) (xs ys : List ℕ)
+    → recordCount c (w .session .port) (xs ++ ys) ≡ recordCount c (w .session .port) xs + recordCount c (runOf c m w xs .session .port) ys
+unfolding recordCount runOf
+count-append c m w [] ys = sym (zero-add _)
+count-append c m w (x ∷ xs) ys =
+    rw (count-append c m (worldAfter c m w x) xs ys)
+    (sym (add-assoc (recordsIn (eventOf c (w .session .port) x)) (recordCount c (stepOf c (w .session .port) x) xs) _))
 
 -- the samples that a call reads: its own if it is done
 abbrev taken : Chip → List ℕ → World → Call → List ℕ

@@ -8,18 +8,16 @@ use lib.Dec.{leb}
 use lib.ListN.{length, take}
 use borrow.Author.Tests.{leb-true, leb-false}
 use Rattle.chip.specs.declared.Chip.{Chip}
-use Rattle.registers.specs.Banks.{Banks}
-use Rattle.writing.specs.Write.{writeBanks}
-use Rattle.records.specs.BanksAfter.{banksAfter}
+use Rattle.records.specs.BanksAfter.{banksAfter, armedAfter}
+use Rattle.run.specs.Reading.{World, runOf}
 use Rattle.order.specs.Order.{Order, RunByte, isRead, goesUp, isSingle, sentBytes, runBytes}
-use Rattle.order.specs.Samples.{samplesOf}
 use Rattle.order.proofs.Laws.{length-run-from, length-sent, length-counted, admitted}
-use Rattle.guarantees.specs.AtRest.{Accepted}
-use Rattle.guarantees.specs.Book.{wholeAfter, wholeBytes, writeAll}
+use Rattle.guarantees.specs.AtRest.{AtRest, Accepted}
+use Rattle.guarantees.specs.Book.{wholeAfter, wholeBytes, wholeRun, writeAll, armedAll}
 use Rattle.guarantees.specs.Counts.{SampleCount, WholeByte, WholeEffect}
-use Rattle.guarantees.proofs.Events.{run-banks}
+use Rattle.guarantees.proofs.Events.{Held, heldIn, heldOn, run-held}
 use Rattle.guarantees.proofs.Runs.{wholeOf}
-use Rattle.guarantees.proofs.Orders.{order-events}
+use Rattle.guarantees.proofs.Orders.{unraised, take-unraised, order-events}
 
 -- an accepted order has as many bytes as it counts
 pub run-length : (c : Chip) (o : Order) (room : ℕ) → Accepted c o room → length (runBytes c o) ≡ o .count
@@ -51,15 +49,23 @@ whole-byte c o s i first last =
     by-mode false e = rw e (omega arith)
 
 -- whole bytes of a write, one after the other
-banks-written : (c : Chip) (m : List ℕ) (b : Banks) (ps : List RunByte) → foldl (banksAfter c m) b (map (wholeOf false) ps) ≡ writeAll c m ps b
-unfolding banksAfter writeAll
-banks-written c m b [] = refl
-banks-written c m b (p ∷ ps) = banks-written c m (writeBanks c m b (p .address) (p .byte)) ps
+held-written : (c : Chip) (m : List ℕ) (h : Held) (ps : List RunByte)
+    → foldl (heldOn c m) h (map (wholeOf false) ps) ≡ record { armed = armedAll c m ps (h .banks) (h .armed); banks = writeAll c m ps (h .banks) }
+unfolding banksAfter armedAfter writeAll armedAll
+held-written c m h [] = refl
+held-written c m h (p ∷ ps) = held-written c m (heldOn c m h (wholeOf false p)) ps
+
+-- what a write leaves before the raise
+pub run-written : (c : Chip) (m : List ℕ) (w : World) (o : Order) (room s : ℕ) → AtRest c m w o → Accepted c o room → isRead o ≡ false
+    → heldIn (runOf c m w (take s (unraised c o)))
+    ≡ record { armed = armedAll c m (wholeRun c o s) (w .banks) (w .session .armed); banks = writeAll c m (wholeRun c o s) (w .banks) }
+run-written c m w o room s rest accepted write =
+    run-held c m w (take s (unraised c o))
+    ∙ ap (foldl (heldOn c m) (heldIn w)) (order-events c m w o room rest accepted s)
+    ∙ ap (λ (read : Bool). foldl (heldOn c m) (heldIn w) (map (wholeOf read) (wholeRun c o s))) write
+    ∙ held-written c m (heldIn w) (wholeRun c o s)
 
 pub whole-effect : WholeEffect
-whole-effect c m w o room s rest accepted write =
-    let whole : List RunByte = take (wholeBytes c o s) (runBytes c o) in
-    run-banks c m w (take s (samplesOf c o))
-    ∙ ap (foldl (banksAfter c m) (w .banks)) (order-events c m w o room rest accepted s)
-    ∙ ap (λ (read : Bool). foldl (banksAfter c m) (w .banks) (map (wholeOf read) whole)) write
-    ∙ banks-written c m (w .banks) whole
+whole-effect c m w o room s rest accepted write early =
+    ap (λ (xs : List ℕ). runOf c m w xs .banks) (take-unraised c o s early)
+    ∙ ap (λ (h : Held). h .banks) (run-written c m w o room s rest accepted write)

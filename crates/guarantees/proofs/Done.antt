@@ -13,12 +13,12 @@ use Rattle.chip.specs.declared.Chip.{Chip}
 use Rattle.maptest.specs.MapTest.{mapNumber, topFits}
 use Rattle.session.specs.State.{soundSession}
 use Rattle.session.specs.Event.{eventOf}
-use Rattle.session.proofs.Laws.{sound-step}
 use Rattle.registers.specs.Banks.{Banks, Mapped}
 use Rattle.run.specs.Reading.{World, worldAfter, runOf, recordCount}
 use Rattle.refusals.specs.Numbers.{samplesGood, banksFit, readNumber}
 use Rattle.refusals.proofs.Laws.{fits-mapped}
 use Rattle.records.proofs.Laws.{mapped-after}
+use Rattle.records.proofs.Arming.{sound-kept}
 use Rattle.order.specs.Order.{Order}
 use Rattle.order.specs.Samples.{clocked, orderBits, samplesOf}
 use Rattle.order.proofs.Laws.{admitted, most-samples}
@@ -29,14 +29,19 @@ pub record Sound (c : Chip) (m : List ℕ) (w : World) : Type 0 where
   pub session-sound : soundSession c (w .session) ≡ true
   pub mapped : Mapped m (w .banks)
 
+pub sound-run : (c : Chip) (m : List ℕ) (w : World) (xs : List ℕ) → soundSession c (w .session) ≡ true → soundSession c (runOf c m w xs .session) ≡ true
+unfolding runOf
+sound-run c m w [] h = h
+sound-run c m w (x ∷ xs) h = sound-run c m (worldAfter c m w x) xs (sound-kept c m (w .session) (w .banks) x h)
+
 pub run-sound : (c : Chip) (m : List ℕ) (w : World) (xs : List ℕ) → Sound c m w → Sound c m (runOf c m w xs)
 unfolding runOf
 run-sound c m w [] h = h
 run-sound c m w (x ∷ xs) h =
     run-sound c m (worldAfter c m w x) xs
     (record {
-      session-sound = sound-step c (w .session) x (h .session-sound);
-      mapped = mapped-after c m (w .banks) (eventOf c (w .session) x) (h .mapped);
+      session-sound = sound-kept c m (w .session) (w .banks) x (h .session-sound);
+      mapped = mapped-after c m (w .session .armed) (w .banks) (eventOf c (w .session .port) x) (h .mapped);
     })
 
 -- the bank sizes, as the reader tests them
@@ -47,7 +52,7 @@ mapped-fits m b h =
 -- the reader gives no number: a call is done on its conditions
 pub no-refusal :
     (c : Chip) (m : List ℕ) (w : World) (xs : List ℕ) (room : ℕ) → mapNumber c m ≡ 0 → topFits c m ≡ true → Sound c m w → samplesGood xs ≡ true
-    → length xs ≤ 65536 → recordSize * recordCount c (w .session) xs ≤ room → readNumber c m w xs room ≡ 0
+    → length xs ≤ 65536 → recordSize * recordCount c (w .session .port) xs ≤ room → readNumber c m w xs room ≡ 0
 unfolding readNumber
 no-refusal c m w xs room good top h fine few enough =
     rw (
@@ -57,7 +62,7 @@ no-refusal c m w xs room good top h fine few enough =
       top,
       fine,
       le-leb (length xs) 65536 few,
-      le-leb (recordSize * recordCount c (w .session) xs) room enough,
+      le-leb (recordSize * recordCount c (w .session .port) xs) room enough,
     )
 
 -- a session at rest, with its banks

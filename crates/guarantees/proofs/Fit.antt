@@ -92,9 +92,9 @@ module _ (c : Chip) (read : Bool) (u : InUse) where
 
 pub order-fits :
     (c : Chip) (m : List ℕ) (w : World) (o : Order) (room : ℕ) → AtRest c m w o → Accepted c o room
-    → AllFit c (isRead o) (inUseOf (w .session .settings)) (w .session .settings) (runFrom (countingOf c w .ascending) (o .start) (sentBytes o))
+    → AllFit c (isRead o) (inUseOf (w .session .port .settings)) (w .session .port .settings) (runFrom (countingOf c w .ascending) (o .start) (sentBytes o))
 order-fits c m w o room rest accepted =
-    let t : Settings = w .session .settings in
+    let t : Settings = w .session .port .settings in
     let sound = admitted c o room (accepted .number) in
     all-fit c (isRead o) (inUseOf t) t (o .start) (sentBytes o) (omega (arith, sound .start))
     (sent-bytes (isRead o) (o .count) (o .bytes) (accepted .data-bytes))

@@ -2,8 +2,8 @@
 -- stay from 0 to the top. Behind the last byte no counted run is left.
 use Prim.Native.Nat.{ℕ, zero, suc, _+_, _-_, _≤_, _<_}
 use mathlib.Core.Path.{_≡_, refl, ap, subst, _∙_}
-use mathlib.Core.Bool.{Bool, true, false, cond}
-use mathlib.Core.List.{List, [], _∷_, _++_, foldl}
+use mathlib.Core.Bool.{Bool, true, false, cond, false≢true}
+use mathlib.Core.List.{List, [], _∷_, foldl}
 use native.Mathlib.Omega.{arith}
 use lib.Dec.{eqb, leb}
 use lib.ListN.{length}
@@ -15,19 +15,18 @@ use Rattle.chip.specs.declared.Chip.the-variants.{Newer, Older}
 use Rattle.settings.specs.declared.Settings.{Settings}
 use Rattle.settings.specs.declared.InUse.{InUse}
 use Rattle.settings.specs.Settings.{counting, nextAddress}
-use Rattle.session.specs.declared.Session.{Session}
+use Rattle.session.specs.declared.Port.{Port}
 use Rattle.session.specs.declared.Event.the-variants.{Whole}
-use Rattle.session.specs.State.{inData, isCounted, soundSession}
+use Rattle.session.specs.State.{inData, isCounted, soundPort}
 use Rattle.session.specs.Step.{runsOut, stepOf}
 use Rattle.session.proofs.Form.{Form, rests, instructs, has-data, stalls, passes, leftAfter, sound-form}
-use Rattle.order.specs.Order.{RunByte, runFrom}
-use Rattle.order.specs.Samples.{bitsOf, lengthBits, byteBits, runBits, clocked}
+use Rattle.order.specs.Order.{runFrom}
+use Rattle.order.specs.Samples.{lengthBits, runBits, clocked}
 use Rattle.order.specs.Number.{upTo}
-use Rattle.order.proofs.Laws.{clocked-append}
 use Rattle.order.proofs.Addresses.{stays-on}
 use Rattle.guarantees.proofs.Events.{settingsOn}
-use Rattle.guarantees.proofs.Pieces.{afterWhole, stepped-byte}
-use Rattle.guarantees.proofs.Runs.{Fits, AllFit, Goes, goes-on}
+use Rattle.guarantees.proofs.Pieces.{afterWhole}
+use Rattle.guarantees.proofs.Runs.{AllFit, Goes, goes-on, byte-first}
 
 pub newer-goes : (u : InUse) (vs : List ℕ) (left a : ℕ) → Goes Newer u left a vs
 newer-goes u [] left a = tt
@@ -67,42 +66,23 @@ older-goes part top u (v ∷ w ∷ ws) left a low r h =
 
 -- ---- what is left at the end
 
--- a newer chip's session has nothing of it
-pub newer-left : (s : Session) → soundSession Newer s ≡ true → isCounted (s .left) ≡ false
+-- a newer chip has nothing of it
+pub newer-left : (s : Port) → soundPort Newer s ≡ true → isCounted (s .left) ≡ false
 newer-left s h = by (sound-form Newer s h)
   where
-    by : {s : Session} → Form Newer s → isCounted (s .left) ≡ false
+    by : {s : Port} → Form Newer s → isCounted (s .left) ≡ false
     by (rests k t) = refl
     by (instructs k n v t u h g) = refl
     by (has-data k n v a r l t u h g f d) = rw (eqb-true l 0 d)
     by (stalls k a r l t u f e d) = rw (eqb-true l 0 d)
     by (passes k t e) = refl
 
-pub fold-append : {A B : Type 0} (f : A → B → A) (a : A) (xs ys : List B) → foldl f a (xs ++ ys) ≡ foldl f (foldl f a xs) ys
-fold-append f a [] ys = refl
-fold-append f a (x ∷ xs) ys = fold-append f (f a x) xs ys
-
 module _ (part : Part) (top : ℕ) (read : Bool) (u : InUse) where
   -- after the last byte a counted run is out, and one that streams goes on or is passed over
   last-left : (t : Settings) (a v : ℕ) {left : ℕ} → Remaining 1 left → isCounted (afterWhole (Older part top) read t u a left v .left) ≡ false
   last-left t a v streaming =
-      each (λ (s : Session). isCounted (s .left) ≡ false) (runsOut (Older part top) 4 a (u .lsb)) (λ e. refl) (λ e. refl)
+      each (λ (s : Port). isCounted (s .left) ≡ false) (runsOut (Older part top) 4 a (u .lsb)) (λ e. refl) (λ e. refl)
   last-left t a v (exactly h) = refl
-
-  -- the samples of the first byte, and then those of the others
-  byte-first : (vs : List ℕ) (v : ℕ) (t : Settings) (a left : ℕ) (sclk : Bool) → Fits (Older part top) read u t (record { address = a; byte = v })
-      → foldl (stepOf (Older part top)) (inData sclk 0 0 a read left t u) (clocked (runBits false read (u .lsb) (runFrom (u .lsb) a (v ∷ vs))))
-      ≡ foldl (stepOf (Older part top)) (afterWhole (Older part top) read t u a left v)
-      (clocked (runBits false read (u .lsb) (runFrom (u .lsb) (nextAddress (u .lsb) a) vs)))
-  unfolding runFrom runBits byteBits
-  byte-first vs v t a left sclk fits =
-      let step = stepOf (Older part top) in
-      let now = inData sclk 0 0 a read left t u in
-      let byte = bitsOf (u .lsb) 8 v in
-      let rest = runBits false read (u .lsb) (runFrom (u .lsb) (nextAddress (u .lsb) a) vs) in
-      ap (foldl step now) (clocked-append byte rest)
-      ∙ fold-append step now (clocked byte) (clocked rest)
-      ∙ ap (λ (s : Session). foldl step s (clocked rest)) (stepped-byte (Older part top) read t u a left v (fits .small) (fits .zeros) sclk)
 
   pub older-left : (vs : List ℕ) (v : ℕ) (t : Settings) (a left : ℕ) (sclk : Bool) → AllFit (Older part top) read u t (runFrom (u .lsb) a (v ∷ vs))
       → Goes (Older part top) u left a (v ∷ vs) → Remaining (length (v ∷ vs)) left
@@ -110,11 +90,11 @@ module _ (part : Part) (top : ℕ) (read : Bool) (u : InUse) where
       ≡ false
   unfolding runFrom runBits clocked
   older-left [] v t a left sclk fit goes r =
-      ap (λ (s : Session). isCounted (s .left)) (byte-first [] v t a left sclk (fit .0)) ∙ last-left t a v r
+      ap (λ (s : Port). isCounted (s .left)) (byte-first (Older part top) read u [] v t a left sclk (fit .0) (λ e. absurd (false≢true e))) ∙ last-left t a v r
   older-left (w ∷ ws) v t a left sclk fit goes r =
-      ap (λ (s : Session). isCounted (s .left))
-      (byte-first (w ∷ ws) v t a left sclk (fit .0)
-      ∙ ap (λ (s : Session). foldl (stepOf (Older part top)) s (clocked (runBits false read (u .lsb) (runFrom (u .lsb) (nextAddress (u .lsb) a) (w ∷ ws)))))
+      ap (λ (s : Port). isCounted (s .left))
+      (byte-first (Older part top) read u (w ∷ ws) v t a left sclk (fit .0) (λ e. absurd (false≢true e))
+      ∙ ap (λ (s : Port). foldl (stepOf (Older part top)) s (clocked (runBits false read (u .lsb) (runFrom (u .lsb) (nextAddress (u .lsb) a) (w ∷ ws)))))
       (goes-on (Older part top) read u t a left v (goes .0)))
       ∙ older-left ws w (settingsOn (Older part top) t (Whole read a v)) (nextAddress (u .lsb) a) (leftAfter left) true (fit .1) (goes .1)
       (more-left (length ws) r .1)

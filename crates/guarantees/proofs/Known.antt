@@ -15,13 +15,14 @@ use Rattle.maptest.proofs.Laws.{good-length, good-form}
 use Rattle.chip.specs.declared.Chip.the-variants.{Newer}
 use Rattle.settings.specs.Settings.{newerAfter, newerReading}
 use Rattle.session.specs.Step.{entered, withInstructionBit, withDataBit, stepOf}
-use Rattle.session.specs.Event.{bitEvent, abortEvent, eventOf}
+use Rattle.session.specs.Event.{bitEvent, endEvent, eventOf}
 use Rattle.registers.specs.Banks.{defaultsFrom, defaultBanks, transferFrom, transferred}
 use Rattle.registers.specs.Read.{dueByte}
 use Rattle.writing.specs.Effect.{controlEffect, effectOf}
 use Rattle.writing.specs.Write.{applied, writeBanks, writtenBy}
+use Rattle.writing.specs.Rise.{armedBy, riseBanks}
 use Rattle.records.specs.Records.{recordOf}
-use Rattle.records.specs.BanksAfter.{banksAfter}
+use Rattle.records.specs.BanksAfter.{banksAfter, armedAfter}
 use Rattle.run.specs.Reading.{runOf, recordsOf}
 use Rattle.order.specs.Order.{runFrom}
 use Rattle.order.specs.Number.{configuresEarly, sendNumber}
@@ -41,8 +42,8 @@ lengths-of version n m good v e =
 
 pub known-results : KnownResults
 unfolding bitAt merged every turned isMirror countOf headOf entryAt kindRule placeRule entryGood entriesGood mapNumber
-    newerAfter newerReading entered withInstructionBit withDataBit stepOf bitEvent abortEvent eventOf
-    defaultsFrom defaultBanks transferFrom transferred controlEffect effectOf applied writeBanks writtenBy dueByte recordOf banksAfter runOf recordsOf
+    newerAfter newerReading entered withInstructionBit withDataBit stepOf bitEvent endEvent eventOf
+    defaultsFrom defaultBanks transferFrom transferred controlEffect effectOf applied writeBanks writtenBy dueByte recordOf banksAfter armedAfter armedBy riseBanks runOf recordsOf
     runFrom highFirst lowFirst bitsOf byteBits runBits orderBits clocked samplesOf allSamples configuresEarly sendNumber
 known-results = record {
   maps-16 = record { good = refl; in-version = refl; registers = refl; lengths = lengths-of 1 16 };
@@ -65,6 +66,12 @@ known-results = record {
   due-11 = refl;
   due-22 = refl;
   active-22 = refl;
+  good-17-flagged = refl;
+  rise-waits = refl;
+  rise-moves = refl;
+  rise-records = refl;
+  rise-cut-moves = refl;
+  rise-cut-records = refl;
   thousand = record { taken = refl; given = length-samples Newer (writeThousand 2) };
   thousand-single = record { taken = refl; given = length-samples Newer (writeThousand 6) };
 }

@@ -6,13 +6,14 @@ use Rattle.regmap.specs.Format.{countOf, headOf, entryAt}
 use Rattle.maptest.specs.MapTest.{kindRule, placeRule, entryGood, entriesGood, mapNumber, mapTestNumber}
 use Rattle.settings.specs.Settings.{olderAfter, olderReading}
 use Rattle.session.specs.Step.{entered, withInstructionBit, withDataBit, stepOf}
-use Rattle.session.specs.Event.{bitEvent, abortEvent, eventOf}
+use Rattle.session.specs.Event.{bitEvent, endEvent, eventOf}
 use Rattle.registers.specs.Banks.{defaultsFrom, defaultBanks, transferFrom, transferred}
 use Rattle.registers.specs.Read.{dueByte}
 use Rattle.writing.specs.Effect.{controlEffect, effectOf}
 use Rattle.writing.specs.Write.{applied, writeBanks, writtenBy}
+use Rattle.writing.specs.Rise.{armedBy, riseBanks}
 use Rattle.records.specs.Records.{recordOf}
-use Rattle.records.specs.BanksAfter.{banksAfter}
+use Rattle.records.specs.BanksAfter.{banksAfter, armedAfter}
 use Rattle.run.specs.Reading.{runOf, recordsOf}
 use Rattle.order.specs.Order.{runFrom}
 use Rattle.order.specs.Number.{configuresEarly, upTo, sendNumber}
@@ -21,8 +22,8 @@ use Rattle.guarantees.specs.KnownOlder.{OlderResults}
 
 pub older-results : OlderResults
 unfolding bitAt merged every countOf headOf entryAt kindRule placeRule entryGood entriesGood mapNumber mapTestNumber
-    olderAfter olderReading entered withInstructionBit withDataBit stepOf bitEvent abortEvent eventOf
-    defaultsFrom defaultBanks transferFrom transferred controlEffect effectOf applied writeBanks writtenBy dueByte recordOf banksAfter runOf recordsOf
+    olderAfter olderReading entered withInstructionBit withDataBit stepOf bitEvent endEvent eventOf
+    defaultsFrom defaultBanks transferFrom transferred controlEffect effectOf applied writeBanks writtenBy dueByte recordOf banksAfter armedAfter armedBy riseBanks runOf recordsOf
     runFrom highFirst lowFirst bitsOf byteBits runBits orderBits clocked samplesOf configuresEarly upTo sendNumber
 older-results = record {
   good = refl;

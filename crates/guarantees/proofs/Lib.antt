@@ -4,6 +4,7 @@ pub mod Buffered
 pub mod Calls
 pub mod Counts
 pub mod Done
+pub mod Raise
 pub mod Ending
 pub mod Events
 pub mod Fit

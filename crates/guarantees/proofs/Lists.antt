@@ -81,7 +81,7 @@ lists-exist c m w o room s raise run = record {
     after = outcomeOf c m w badCall .world
 
     size : ℕ
-    size = recordSize * recordCount c (after .session) samples
+    size = recordSize * recordCount c (after .session .port) samples
 
     whole : Call
     whole = record { samples = samples; records = replicate size 0 }

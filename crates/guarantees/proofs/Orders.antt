@@ -1,14 +1,14 @@
 -- An accepted order, read by a session at rest with the same settings and stopped after any number of its samples: what happens is its whole
 -- bytes, in order, as many as the formula says.
-use Prim.Native.Nat.{ℕ, zero, suc, _-_, _/_, _≤_, min}
+use Prim.Native.Nat.{ℕ, zero, suc, _-_, _/_, _<_, _≤_, min}
 use mathlib.Core.Path.{_≡_, refl, sym, ap, _∙_}
 use mathlib.Core.Bool.{Bool, true, false, cond, false≢true}
-use mathlib.Core.List.{List, [], _∷_, _++_, map}
+use mathlib.Core.List.{List, [], _∷_, _++_, append-assoc, map}
 use native.Mathlib.Nat.{min-zero, suc-min-suc}
 use native.Mathlib.Omega.{arith}
 use lib.Dec.{ltb}
-use lib.ListN.{length, take}
-use lib.Seq.{take-nil}
+use lib.ListN.{length, length-append, take}
+use lib.Seq.{take-nil, take-append-le}
 use borrow.Author.Tests.{ltb-true}
 use Rattle.bits.specs.Bits.{bitAt}
 use Rattle.bits.proofs.Cases.{each}
@@ -18,12 +18,13 @@ use Rattle.chip.specs.declared.Chip.the-variants.{Newer, Older}
 use Rattle.settings.specs.declared.Settings.{Settings}
 use Rattle.settings.specs.declared.InUse.{InUse}
 use Rattle.settings.specs.Settings.{inUseOf, counting}
-use Rattle.session.specs.declared.Session.{Session}
+use Rattle.session.specs.declared.Port.{Port}
 use Rattle.session.specs.declared.Event.{Event}
 use Rattle.session.specs.State.{resting, starting, inData}
 use Rattle.session.specs.Step.{stepOf}
 use Rattle.session.specs.Event.{eventOf}
 use Rattle.session.proofs.Form.{rest-form}
+use Rattle.session.proofs.Laws.{port-sound}
 use Rattle.run.specs.Reading.{World}
 use Rattle.order.specs.Order.{Order, RunByte, isRead, isSingle, runFrom, sentBytes, runBytes}
 use Rattle.order.specs.Samples.{bitsOf, instructionOf, lengthAndAddress, runBits, orderBits, clocked, samplesOf}
@@ -41,7 +42,7 @@ abbrev wholeIn : Bool → ℕ → ℕ
 wholeIn single j = cond single (j / 48) ((j - 32) / 16)
 
 -- the bits of a run, with the instruction that a stream begins with
-abbrev bitsFrom : Bool → Bool → Bool → ℕ → List RunByte → List Bool
+abbrev pub bitsFrom : Bool → Bool → Bool → ℕ → List RunByte → List Bool
 bitsFrom single read lsb x ps = cond single [] (bitsOf lsb 16 (instructionOf read x)) ++ runBits single read lsb ps
 
 -- what a run of k bytes from an address on finds on a chip, so that it goes to its last byte
@@ -52,7 +53,7 @@ pub record Ready (c : Chip) (t : Settings) (k a : ℕ) (vs : List ℕ) : Type 0 
   pub goes : Goes c (inUseOf t) (leftOf c k) a vs
 
 -- with single instruction there is nothing left: it is a newer chip's
-single-leaves : (c : Chip) (u : InUse) (k : ℕ) → counting c u .single ≡ true → leftOf c k ≡ 0
+pub single-leaves : (c : Chip) (u : InUse) (k : ℕ) → counting c u .single ≡ true → leftOf c k ≡ 0
 single-leaves Newer u k e = refl
 single-leaves (Older part top) u k e = absurd (false≢true e)
 
@@ -74,7 +75,7 @@ from-start c read t k a j (v ∷ vs) r fit =
     samples : Bool → List ℕ
     samples single = clocked (runBits single read (t .lsb) ps) ++ ending
 
-    entered : Session
+    entered : Port
     entered = inData true 0 0 a read (leftOf c k) t (inUseOf t)
 
     later : List Event
@@ -117,14 +118,14 @@ take-min {A} (suc n) (x ∷ l) =
 
 -- an accepted order finds all that
 pub order-ready : (c : Chip) (m : List ℕ) (w : World) (o : Order) (room : ℕ) → AtRest c m w o → Accepted c o room
-    → Ready c (w .session .settings) (o .count) (o .start) (sentBytes o)
+    → Ready c (w .session .port .settings) (o .count) (o .start) (sentBytes o)
 order-ready Newer m w o room rest accepted =
     let a = admitted Newer o room (accepted .number) in
     record {
       top = tt;
       start = a .start;
       some = omega (arith, a .count .some, length-sent (isRead o) (o .count) (o .bytes) (a .count .data-length));
-      goes = newer-goes (inUseOf (w .session .settings)) (sentBytes o) 0 (o .start);
+      goes = newer-goes (inUseOf (w .session .port .settings)) (sentBytes o) 0 (o .start);
     }
 order-ready (Older part top) m w o room rest accepted =
     let a = admitted (Older part top) o room (accepted .number) in
@@ -134,24 +135,41 @@ order-ready (Older part top) m w o room rest accepted =
       top = low;
       start = older-start part top o (a .count) (a .addresses);
       some = omega (arith, a .count .some, sent);
-      goes = older-goes part top (inUseOf (w .session .settings)) (sentBytes o) _ (o .start) (omega (arith, low))
+      goes = older-goes part top (inUseOf (w .session .port .settings)) (sentBytes o) _ (o .start) (omega (arith, low))
           (rw sent (instruction-leaves (o .count) (a .count .some))) (rw (rest .same-lsb) at (a .addresses));
     }
 
+-- the samples of an order but the last, which raises the select
+abbrev pub unraised : Chip → Order → List ℕ
+unraised c o = 0x00 ∷ (clocked (orderBits c o) ++ ending)
+
+pub raised-last : (c : Chip) (o : Order) → samplesOf c o ≡ unraised c o ++ (0x01 ∷ [])
+unfolding samplesOf
+raised-last c o = ap {B = List ℕ} (λ (l : List ℕ). 0x00 ∷ l) (sym (append-assoc (clocked (orderBits c o)) ending (0x01 ∷ [])))
+
+pub take-unraised : (c : Chip) (o : Order) (s : ℕ) → s < length (samplesOf c o) → take s (samplesOf c o) ≡ take s (unraised c o)
+take-unraised c o s h =
+    ap (take s) (raised-last c o)
+    ∙ take-append-le s (unraised c o) (0x01 ∷ []) (omega (arith, ap length (raised-last c o), length-append (unraised c o) (0x01 ∷ [])))
+
+-- the port of a session at rest
+pub rest-port : (c : Chip) (m : List ℕ) (w : World) (o : Order) → AtRest c m w o → w .session .port ≡ resting (w .session .port .sclk) (w .session .port .settings)
+rest-port c m w o rest = rest-form c (w .session .port) (port-sound c (w .session) (rest .sound)) (rest .at-rest) (rest .deselected)
+
 pub order-events :
     (c : Chip) (m : List ℕ) (w : World) (o : Order) (room : ℕ) → AtRest c m w o → Accepted c o room → (s : ℕ)
-    → eventsOf c (w .session) (take s (samplesOf c o)) ≡ map (wholeOf (isRead o)) (take (wholeBytes c o s) (runBytes c o))
-unfolding samplesOf orderBits wholeBytes eventsOf
+    → eventsOf c (w .session .port) (take s (unraised c o)) ≡ map (wholeOf (isRead o)) (take (wholeBytes c o s) (runBytes c o))
+unfolding orderBits wholeBytes eventsOf
 order-events c m w o room rest accepted s =
-    rw (rest-form c (w .session) (rest .sound) (rest .at-rest) (rest .deselected), take-min) (by-stop s)
+    rw (rest-port c m w o rest, take-min) (by-stop s)
   where
     by-stop :
         (s : ℕ)
-        → eventsOf c (resting (w .session .sclk) (w .session .settings)) (take s (samplesOf c o))
+        → eventsOf c (resting (w .session .port .sclk) (w .session .port .settings)) (take s (unraised c o))
         ≡ map (wholeOf (isRead o)) (take (cond (isSingle c o) ((s - 1) / 48) ((s - 33) / 16)) (runBytes c o))
     by-stop zero = each (λ (n : ℕ). [] ≡ map (wholeOf (isRead o)) (take n (runBytes c o))) (isSingle c o) (λ e. refl) (λ e. refl)
     by-stop (suc j) =
-        first-sample c (w .session .sclk) (w .session .settings) (take j (clocked (orderBits c o) ++ ending))
+        first-sample c (w .session .port .sclk) (w .session .port .settings) (take j (clocked (orderBits c o) ++ ending))
         ∙ rw (past-first, rest .same-direction, rest .same-single, rest .same-lsb)
-        (from-start c (isRead o) (w .session .settings) (o .count) (o .start) j (sentBytes o)
+        (from-start c (isRead o) (w .session .port .settings) (o .count) (o .start) j (sentBytes o)
         (order-ready c m w o room rest accepted) (order-fits c m w o room rest accepted))

@@ -17,19 +17,19 @@ use Rattle.settings.specs.declared.InUse.{InUse}
 use Rattle.settings.specs.Settings.{counting}
 use Rattle.session.specs.declared.Phase.{Phase}
 use Rattle.session.specs.declared.Phase.the-variants.{Instruction, Data}
-use Rattle.session.specs.declared.Session.{Session}
+use Rattle.session.specs.declared.Port.{Port}
 use Rattle.session.specs.declared.Event.{Event}
 use Rattle.session.specs.declared.Event.the-variants.{Nothing, Whole}
 use Rattle.session.specs.State.{resting, passing, instructing, inData, isCounted}
 use Rattle.session.specs.Step.{sdioOf, sdoOf, entered, afterByte, withInstructionBit, withDataBit, withBit, stepOf}
-use Rattle.session.specs.Event.{bitEvent, abortEvent, eventOf}
+use Rattle.session.specs.Event.{bitEvent, eventOf}
 use Rattle.order.specs.Samples.{highFirst, lowFirst, bitsOf, instructionOf, lengthBits, lengthAndAddress, clocked}
 use Rattle.order.proofs.Laws.{length-bits, length-clocked, length-bits-few}
 use Rattle.guarantees.proofs.BitsBack.{takenIn, bits-back}
 use Rattle.guarantees.proofs.Events.{noted, eventsOf, settingsOn}
 
--- a session with CSB at a level
-abbrev selected : Bool → Bool → Phase → ℕ → ℕ → ℕ → Bool → ℕ → Settings → InUse → Session
+-- a port with CSB at a level
+abbrev selected : Bool → Bool → Phase → ℕ → ℕ → ℕ → Bool → ℕ → Settings → InUse → Port
 selected csb sclk p bits value a read left t u = record {
   csb = csb;
   sclk = sclk;
@@ -44,15 +44,15 @@ selected csb sclk p bits value a read left t u = record {
 }
 
 -- a session with CSB low
-abbrev pub low : Bool → Phase → ℕ → ℕ → ℕ → Bool → ℕ → Settings → InUse → Session
+abbrev pub low : Bool → Phase → ℕ → ℕ → ℕ → Bool → ℕ → Settings → InUse → Port
 low sclk p bits value a read left t u = selected false sclk p bits value a read left t u
 
 -- what a sample does: the next session, and what happens
-record Does (c : Chip) (s : Session) (x : ℕ) (next : Session) (e : Event) : Type 0 where
+record Does (c : Chip) (s : Port) (x : ℕ) (next : Port) (e : Event) : Type 0 where
   step : stepOf c s x ≡ next
   event : eventOf c s x ≡ e
 
-does-events : {c : Chip} {s : Session} {x : ℕ} {next : Session} {e : Event} → Does c s x next e → (more : List ℕ)
+does-events : {c : Chip} {s : Port} {x : ℕ} {next : Port} {e : Event} → Does c s x next e → (more : List ℕ)
     → eventsOf c s (x ∷ more) ≡ noted e (eventsOf c next more)
 unfolding eventsOf
 does-events d more = rw (d .step, d .event)
@@ -74,22 +74,21 @@ module _ (c : Chip) (p : Phase) (n v a : ℕ) (read : Bool) (left : ℕ) (t : Se
   clock-high true = record { step = refl; event = refl }
   clock-high false = record { step = refl; event = refl }
 
--- the end of a run, with no bit taken: the raise breaks nothing
+-- the end of a run, before the raise
 pub quiet-end : (c : Chip) (p : Phase) (a : ℕ) (read : Bool) (left : ℕ) (t : Settings) (u : InUse) (j : ℕ) (sclk : Bool)
-    → eventsOf c (low sclk p 0 0 a read left t u) (take j (0x00 ∷ 0x01 ∷ [])) ≡ []
-unfolding eventsOf stepOf eventOf abortEvent bitAt
+    → eventsOf c (low sclk p 0 0 a read left t u) (take j (0x00 ∷ [])) ≡ []
+unfolding eventsOf
 quiet-end c p a read left t u zero sclk = refl
-quiet-end c p a read left t u (suc zero) sclk = does-events (clock-low c p 0 0 a read left t u sclk false) []
-quiet-end c p a read left t u (suc (suc j)) sclk =
-    does-events (clock-low c p 0 0 a read left t u sclk false) (0x01 ∷ take j [])
-    ∙ ap (eventsOf c (cond (true && not (isCounted left && true)) (resting false t) (selected true false p 0 0 a read left t u))) (take-nil j)
+quiet-end c p a read left t u (suc j) sclk =
+    does-events (clock-low c p 0 0 a read left t u sclk false) (take j [])
+    ∙ ap (eventsOf c (low false p 0 0 a read left t u)) (take-nil j)
 
 -- ---- a piece of some width
 
 -- It is taken bit by bit; `seen` is what the reader sees of a bit that is sent; from its last bit on there are, by its value, the session
 -- `after` it and the event that it is.
 record Piece
-    (c : Chip) (width : ℕ) (lsb : Bool) (seen : Bool → Bool) (at : Bool → ℕ → ℕ → Session) (after : ℕ → Session) (whole : ℕ → Event)
+    (c : Chip) (width : ℕ) (lsb : Bool) (seen : Bool → Bool) (at : Bool → ℕ → ℕ → Port) (after : ℕ → Port) (whole : ℕ → Event)
     : Type 0 where
   half : (sclk b : Bool) (n v : ℕ) → Does c (at sclk n v) (4 * bitOf b) (at false n v) Nothing
   one-more : (b : Bool) (n v : ℕ) → n + 1 < width → Does c (at false n v) (4 * bitOf b + 2) (at true (n + 1) (shiftedIn lsb v n (seen b))) Nothing
@@ -97,7 +96,7 @@ record Piece
       → Does c (at false n v) (4 * bitOf b + 2) (after (shiftedIn lsb v n (seen b))) (whole (shiftedIn lsb v n (seen b)))
 
 module _
-    {c : Chip} {width : ℕ} {lsb : Bool} {seen : Bool → Bool} {at : Bool → ℕ → ℕ → Session} {after : ℕ → Session} {whole : ℕ → Event}
+    {c : Chip} {width : ℕ} {lsb : Bool} {seen : Bool → Bool} {at : Bool → ℕ → ℕ → Port} {after : ℕ → Port} {whole : ℕ → Event}
     (P : Piece c width lsb seen at after whole) where
   -- what happens from the last bit of a value on
   abbrev then : ℕ → List ℕ → List Event
@@ -132,10 +131,10 @@ module _
   unfolding clocked takenIn
   all-stepped [] sclk n v e h = absurd (omega arith)
   all-stepped (b ∷ []) sclk n v e h =
-      ap (λ (s : Session). stepOf c s (4 * bitOf b + 2)) (P .half sclk b n v .step) ∙ P .last b n v (omega arith) .step
+      ap (λ (s : Port). stepOf c s (4 * bitOf b + 2)) (P .half sclk b n v .step) ∙ P .last b n v (omega arith) .step
   all-stepped (b ∷ b' ∷ bs) sclk n v e h =
-      ap (λ (s : Session). foldl (stepOf c) s ((4 * bitOf b + 2) ∷ clocked (b' ∷ bs))) (P .half sclk b n v .step)
-      ∙ ap (λ (s : Session). foldl (stepOf c) s (clocked (b' ∷ bs))) (P .one-more b n v (omega arith) .step)
+      ap (λ (s : Port). foldl (stepOf c) s ((4 * bitOf b + 2) ∷ clocked (b' ∷ bs))) (P .half sclk b n v .step)
+      ∙ ap (λ (s : Port). foldl (stepOf c) s (clocked (b' ∷ bs))) (P .one-more b n v (omega arith) .step)
       ∙ all-stepped (b' ∷ bs) true (n + 1) (shiftedIn lsb v n (seen b)) (omega arith) (omega arith)
 
   module _ (x : ℕ) (some : 0 < width) (small : x < 2 ^ width) (same : map seen (bitsOf lsb width x) ≡ bitsOf lsb width x) where
@@ -183,7 +182,7 @@ quiet-sdo true = refl
 quiet-sdo false = refl
 
 -- a sample that does one thing does what equals it
-does-as : {c : Chip} {s : Session} {x : ℕ} {next next' : Session} {e e' : Event} → Does c s x next e → next ≡ next' → e ≡ e' → Does c s x next' e'
+does-as : {c : Chip} {s : Port} {x : ℕ} {next next' : Port} {e e' : Event} → Does c s x next e → next ≡ next' → e ≡ e' → Does c s x next' e'
 does-as d p q = record { step = d .step ∙ p; event = d .event ∙ q }
 
 -- ---- an instruction
@@ -253,7 +252,7 @@ module _ (c : Chip) (k : ℕ) (read : Bool) (t : Settings) (u : InUse) (a : ℕ)
       ≡ cond (ltb j 32) [] (eventsOf c (inData true 0 0 a read (leftOf c k) t u) (take (j - 32) more))
   stopped-instruction j sclk more =
       stopped (instruction-piece c t u) (instructionOf read (lengthAndAddress c k a)) (omega arith) (instruction-lt c k read a f h) (map-id _) j sclk more
-      ∙ ap (λ (s : Session). cond (ltb j 32) [] (eventsOf c s (take (j - 32) more))) (entered-instruction c k read a t u f h)
+      ∙ ap (λ (s : Port). cond (ltb j 32) [] (eventsOf c s (take (j - 32) more))) (entered-instruction c k read a t u f h)
 
   pub stepped-instruction : (sclk : Bool)
       → foldl (stepOf c) (instructing sclk 0 0 t u) (clocked (bitsOf (u .lsb) 16 (instructionOf read (lengthAndAddress c k a))))
@@ -281,7 +280,7 @@ bits-seen c true lsb u v e = rw e (zeros-seen lsb (counting c u .sdo))
 bits-seen c false lsb u v e = map-id (bitsOf lsb 8 v)
 
 -- the session after a whole byte
-abbrev pub afterWhole : Chip → Bool → Settings → InUse → ℕ → ℕ → ℕ → Session
+abbrev pub afterWhole : Chip → Bool → Settings → InUse → ℕ → ℕ → ℕ → Port
 afterWhole c read t u a left v = afterByte c (inData true 7 0 a read left t u) (settingsOn c t (Whole read a v))
 
 data-piece : (c : Chip) (a : ℕ) (read : Bool) (left : ℕ) (t : Settings) (u : InUse)

@@ -2,7 +2,7 @@
 use Prim.Native.Nat.{ℕ, _-_, _/_, _<_}
 use mathlib.Core.Path.{_≡_, refl, sym, ap, _∙_}
 use mathlib.Core.Bool.{Bool, true, false, cond, false≢true}
-use mathlib.Core.List.{List, [], _∷_, _++_, append-assoc, map}
+use mathlib.Core.List.{List, [], _∷_, _++_, append-assoc, map, foldl}
 use native.Mathlib.Nat.{div-eq-of-lt, div-eq-sub-div}
 use native.Mathlib.Numerals.{add-one}
 use native.Mathlib.Decide.{decLt}
@@ -18,17 +18,17 @@ use Rattle.settings.specs.declared.Settings.{Settings}
 use Rattle.settings.specs.declared.InUse.{InUse}
 use Rattle.settings.specs.Settings.{inUseOf, counting, nextAddress}
 use Rattle.session.specs.declared.Phase.the-variants.{Rest, Instruction, Data}
-use Rattle.session.specs.declared.Session.{Session}
+use Rattle.session.specs.declared.Port.{Port}
 use Rattle.session.specs.declared.Event.{Event}
 use Rattle.session.specs.declared.Event.the-variants.{Whole}
 use Rattle.session.specs.State.{noneInUse, instructing, starting, inData}
-use Rattle.session.specs.Step.{runsOut}
+use Rattle.session.specs.Step.{runsOut, stepOf}
 use Rattle.session.proofs.Form.{leftAfter}
 use Rattle.order.specs.Order.{RunByte, runFrom}
 use Rattle.order.specs.Samples.{bitsOf, instructionOf, byteBits, runBits, clocked}
 use Rattle.order.proofs.Laws.{clocked-append}
 use Rattle.guarantees.proofs.Events.{eventsOf, settingsOn}
-use Rattle.guarantees.proofs.Pieces.{afterWhole, quiet-end, stopped-instruction, stopped-byte}
+use Rattle.guarantees.proofs.Pieces.{afterWhole, quiet-end, stopped-instruction, stepped-instruction, stopped-byte, stepped-byte}
 
 -- the event of a byte of a run
 abbrev pub wholeOf : Bool → RunByte → Event
@@ -53,6 +53,10 @@ Goes c u left a (v ∷ w ∷ vs) = (runsOut c left a (u .lsb) ≡ false) × Goes
 
 pub clocked-then : (bs cs : List Bool) (more : List ℕ) → clocked (bs ++ cs) ++ more ≡ clocked bs ++ (clocked cs ++ more)
 clocked-then bs cs more = rw clocked-append (append-assoc (clocked bs) (clocked cs) more)
+
+pub fold-append : {A B : Type 0} (f : A → B → A) (a : A) (xs ys : List B) → foldl f a (xs ++ ys) ≡ foldl f (foldl f a xs) ys
+fold-append f a [] ys = refl
+fold-append f a (x ∷ xs) ys = fold-append f (f a x) xs ys
 
 -- how many samples a byte has
 abbrev pub period : Bool → ℕ
@@ -79,7 +83,7 @@ two-pieces j none some = by-tests (ltb j 32) (ltb j 48) refl refl
         rw (le-ltb (j - 32) 16 (omega (arith, ltb-false j 32 e, ltb-false j 48 f)), same)
 
 -- before a byte: with single instruction in use, an instruction starts
-abbrev pub ready : Chip → Bool → Bool → ℕ → Settings → InUse → ℕ → Session
+abbrev pub ready : Chip → Bool → Bool → ℕ → Settings → InUse → ℕ → Port
 ready c sclk read left t u a = cond (counting c u .single) (starting sclk t) (inData sclk 0 0 a read left t u)
 
 module _ (c : Chip) (read : Bool) (u : InUse) (t : Settings) (left : ℕ) (p : RunByte) (fits : Fits c read u t p) where
@@ -125,9 +129,38 @@ module _ (c : Chip) (read : Bool) (u : InUse) (t : Settings) (left : ℕ) (p : R
           ∙ two-pieces j [] then
       by-mode false m e = stopped-byte c read t u (p .address) left (p .byte) (fits .small) (fits .zeros) j sclk more
 
--- what comes after the last byte: 0x00, and the raise
+  -- the port after one byte of a run
+  stepped-run-byte : (counting c u .single ≡ true → left ≡ 0) → (sclk : Bool)
+      → foldl (stepOf c) (ready c sclk read left t u (p .address)) (clocked (byteBits (counting c u .single) read (u .lsb) p))
+      ≡ afterWhole c read t u (p .address) left (p .byte)
+  unfolding byteBits
+  stepped-run-byte none sclk = by-mode (counting c u .single) refl (fits .steady)
+    where
+      instruction : List Bool
+      instruction = bitsOf (u .lsb) 16 (instructionOf read (p .address))
+
+      byte : List Bool
+      byte = bitsOf (u .lsb) 8 (p .byte)
+
+      entered : (k : Chip) → counting k u .single ≡ true → left ≡ 0
+          → foldl (stepOf k) (instructing sclk 0 0 t u) (clocked instruction) ≡ inData true 0 0 (p .address) read left t u
+      entered Newer e z = rw z (stepped-instruction Newer 0 read t u (p .address) tt (omega (arith, fits .near)) sclk)
+      entered (Older part top) e z = absurd (false≢true e)
+
+      by-mode : (single : Bool) → counting c u .single ≡ single → cond single (inUseOf t) u ≡ u
+          → foldl (stepOf c) (cond single (starting sclk t) (inData sclk 0 0 (p .address) read left t u)) (clocked (cond single instruction [] ++ byte))
+          ≡ afterWhole c read t u (p .address) left (p .byte)
+      by-mode true m e =
+          ap (λ (v : InUse). foldl (stepOf c) (instructing sclk 0 0 t v) (clocked (instruction ++ byte))) e
+          ∙ ap (foldl (stepOf c) (instructing sclk 0 0 t u)) (clocked-append instruction byte)
+          ∙ fold-append (stepOf c) (instructing sclk 0 0 t u) (clocked instruction) (clocked byte)
+          ∙ ap (λ (s : Port). foldl (stepOf c) s (clocked byte)) (entered c m (none m))
+          ∙ stepped-byte c read t u (p .address) left (p .byte) (fits .small) (fits .zeros) true
+      by-mode false m e = stepped-byte c read t u (p .address) left (p .byte) (fits .small) (fits .zeros) sclk
+
+-- what comes after the last byte, before the raise
 abbrev pub ending : List ℕ
-ending = 0x00 ∷ 0x01 ∷ []
+ending = 0x00 ∷ []
 
 -- after the last byte nothing happens, whether the run ends there or not
 ends-quietly : (c : Chip) (read : Bool) (t : Settings) (u : InUse) (a left v j : ℕ) → eventsOf c (afterWhole c read t u a left v) (take j ending) ≡ []
@@ -136,7 +169,7 @@ ends-quietly c read t u a left v j =
     (λ e. each Quiet (runsOut c left a (u .lsb)) (λ e. quiet-end c Rest 0 false 0 _ noneInUse j true)
     (λ e. quiet-end c Data _ read _ _ u j true))
   where
-    Quiet : Session → Type 0
+    Quiet : Port → Type 0
     Quiet s = eventsOf c s (take j ending) ≡ []
 
 module _ (c : Chip) (read : Bool) (u : InUse) where
@@ -204,3 +237,42 @@ module _ (c : Chip) (read : Bool) (u : InUse) where
     where
       still : left ≡ 0 → leftAfter left ≡ 0
       still z = rw z
+
+  -- ---- the port behind a run
+
+  -- the samples of the first byte, and then those of the others
+  pub byte-first : (vs : List ℕ) (v : ℕ) (t : Settings) (a left : ℕ) (sclk : Bool) → Fits c read u t (record { address = a; byte = v })
+      → (counting c u .single ≡ true → left ≡ 0)
+      → foldl (stepOf c) (ready c sclk read left t u a) (clocked (runBits (counting c u .single) read (u .lsb) (runFrom (counting c u .ascending) a (v ∷ vs))))
+      ≡ foldl (stepOf c) (afterWhole c read t u a left v)
+      (clocked (runBits (counting c u .single) read (u .lsb) (runFrom (counting c u .ascending) (nextAddress (counting c u .ascending) a) vs)))
+  unfolding runFrom runBits
+  byte-first vs v t a left sclk fits none =
+      let first : RunByte = record { address = a; byte = v } in
+      let now = ready c sclk read left t u a in
+      let byte = byteBits (counting c u .single) read (u .lsb) first in
+      let rest = runBits (counting c u .single) read (u .lsb) (runFrom (counting c u .ascending) (nextAddress (counting c u .ascending) a) vs) in
+      ap (foldl (stepOf c) now) (clocked-append byte rest)
+      ∙ fold-append (stepOf c) now (clocked byte) (clocked rest)
+      ∙ ap (λ (s : Port). foldl (stepOf c) s (clocked rest)) (stepped-run-byte c read u t left first fits none sclk)
+
+  -- after a whole byte no bit of the next piece is taken
+  after-no-bits : (t : Settings) (a left v : ℕ) → afterWhole c read t u a left v .bits ≡ 0
+  after-no-bits t a left v =
+      each (λ (s : Port). s .bits ≡ 0) (counting c u .single) (λ e. refl)
+      (λ e. each (λ (s : Port). s .bits ≡ 0) (runsOut c left a (u .lsb)) (λ e. refl) (λ e. refl))
+
+  pub run-no-bits : (vs : List ℕ) (v : ℕ) (t : Settings) (a left : ℕ) (sclk : Bool) → AllFit c read u t (runFrom (counting c u .ascending) a (v ∷ vs))
+      → Goes c u left a (v ∷ vs) → (counting c u .single ≡ true → left ≡ 0)
+      → foldl (stepOf c) (ready c sclk read left t u a) (clocked (runBits (counting c u .single) read (u .lsb) (runFrom (counting c u .ascending) a (v ∷ vs)))) .bits
+      ≡ 0
+  unfolding runFrom runBits clocked
+  run-no-bits [] v t a left sclk fit goes none =
+      ap (λ (s : Port). s .bits) (byte-first [] v t a left sclk (fit .0) none) ∙ after-no-bits t a left v
+  run-no-bits (w ∷ ws) v t a left sclk fit goes none =
+      ap (λ (s : Port). s .bits)
+      (byte-first (w ∷ ws) v t a left sclk (fit .0) none
+      ∙ ap (λ (s : Port). foldl (stepOf c) s (clocked (runBits (counting c u .single) read (u .lsb) (runFrom (counting c u .ascending) (nextAddress (counting c u .ascending) a) (w ∷ ws)))))
+      (goes-on t a left v (goes .0)))
+      ∙ run-no-bits ws w (settingsOn c t (Whole read a v)) (nextAddress (counting c u .ascending) a) (leftAfter left) true (fit .1) (goes .1)
+      (λ e. rw (none e))

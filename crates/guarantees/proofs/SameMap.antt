@@ -1,8 +1,9 @@
--- Whatever reads a map reads its count and its registers.
+-- Whatever reads a map reads its count, its registers and its flags.
 use Prim.Native.Nat.{ℕ, zero, suc, _+_}
 use mathlib.Core.Path.{_≡_, refl, ap, sym, _∙_}
+use mathlib.Core.Bool.{Bool}
 use mathlib.Core.List.{List, [], _∷_}
-use Rattle.regmap.specs.Format.{countOf, SameRegisters}
+use Rattle.regmap.specs.Format.{countOf, flagsOf, SameRegisters}
 use Rattle.maptest.specs.MapTest.{topFits}
 use Rattle.convert.proofs.Laws.{accepted}
 use Rattle.convert.proofs.Made.{converted-maps}
@@ -17,14 +18,15 @@ use Rattle.registers.specs.Read.{dueByte}
 use Rattle.writing.specs.declared.Effect.{Effect}
 use Rattle.writing.specs.declared.Effect.the-variants.{Nothing, Active, Buffer, Control, Transfer, Reset, Ignored}
 use Rattle.writing.specs.Write.{effectAt, applied, writeBanks}
+use Rattle.writing.specs.Rise.{armedBy, riseBanks}
 use Rattle.records.specs.Records.{recordOf}
-use Rattle.records.specs.BanksAfter.{banksAfter}
+use Rattle.records.specs.BanksAfter.{banksAfter, armedAfter}
 use Rattle.run.specs.Reading.{World, worldAfter, runOf, recordsOf}
 use Rattle.refusals.specs.Numbers.{openNumber, readNumber}
 use Rattle.reader.specs.Calls.{openOf, readOf}
 use Rattle.guarantees.specs.SameMap.{SameMap, ConvertedAlike}
 
-module _ (c : Chip) (m m′ : List ℕ) (s : SameRegisters m m′) where
+module _ (c : Chip) (m m′ : List ℕ) (s : SameRegisters m m′) (f : flagsOf m ≡ flagsOf m′) where
   defaults-same : (a k : ℕ) → defaultsFrom m a k ≡ defaultsFrom m′ a k
   unfolding defaultsFrom
   defaults-same a zero = refl
@@ -62,15 +64,39 @@ module _ (c : Chip) (m m′ : List ℕ) (s : SameRegisters m m′) where
   record-same b t event.Nothing = refl
   record-same b t (event.Whole read a v) = rw (s .same-entry a)
   record-same b t (event.Aborted a bits inData) = refl
+  record-same b t event.Ended = refl
 
-  after-same : (b : Banks) (e : Event) → banksAfter c m b e ≡ banksAfter c m′ b e
+  rise-same : (armed : Bool) (b : Banks) → riseBanks c m armed b ≡ riseBanks c m′ armed b
+  unfolding riseBanks
+  rise-same armed b = rw (f, transferred-same b)
+
+  after-same : (armed : Bool) (b : Banks) (e : Event) → banksAfter c m armed b e ≡ banksAfter c m′ armed b e
   unfolding banksAfter
-  after-same b event.Nothing = refl
-  after-same b (event.Whole read a v) = rw (write-same b a v)
-  after-same b (event.Aborted a bits inData) = refl
+  after-same armed b event.Nothing = refl
+  after-same armed b (event.Whole read a v) = rw (write-same b a v)
+  after-same armed b (event.Aborted a bits inData) = rise-same armed b
+  after-same armed b event.Ended = rise-same armed b
+
+  armed-by-same : (armed : Bool) (e : Effect) → armedBy c m armed e ≡ armedBy c m′ armed e
+  unfolding armedBy
+  armed-by-same armed Nothing = refl
+  armed-by-same armed (Active byte moved) = refl
+  armed-by-same armed (Buffer byte moved) = rw f
+  armed-by-same armed Control = refl
+  armed-by-same armed Transfer = refl
+  armed-by-same armed Reset = refl
+  armed-by-same armed Ignored = refl
+
+  armed-same : (armed : Bool) (b : Banks) (e : Event) → armedAfter c m armed b e ≡ armedAfter c m′ armed b e
+  unfolding armedAfter
+  armed-same armed b event.Nothing = refl
+  armed-same armed b (event.Whole read a v) = rw (s .same-entry a, armed-by-same armed (effectAt c m′ b a v))
+  armed-same armed b (event.Aborted a bits inData) = refl
+  armed-same armed b event.Ended = refl
 
   one-same : (w : World) (x : ℕ) → worldAfter c m w x ≡ worldAfter c m′ w x
-  one-same w x = rw (after-same (w .banks) (eventOf c (w .session) x))
+  one-same w x =
+      rw (after-same (w .session .armed) (w .banks) (eventOf c (w .session .port) x), armed-same (w .session .armed) (w .banks) (eventOf c (w .session .port) x))
 
   run-same : (w : World) (xs : List ℕ) → runOf c m w xs ≡ runOf c m′ w xs
   unfolding runOf
@@ -81,7 +107,7 @@ module _ (c : Chip) (m m′ : List ℕ) (s : SameRegisters m m′) where
   unfolding recordsOf
   records-same w [] = refl
   records-same w (x ∷ xs) =
-      rw (record-same (w .banks) (w .session .settings) (eventOf c (w .session) x), records-same (worldAfter c m w x) xs, one-same w x)
+      rw (record-same (w .banks) (w .session .port .settings) (eventOf c (w .session .port) x), records-same (worldAfter c m w x) xs, one-same w x)
 
 -- the top is tested by the count
 top-same : (c : Chip) (m m′ : List ℕ) → SameRegisters m m′ → topFits c m ≡ topFits c m′
@@ -90,12 +116,12 @@ top-same (Older part top) m m′ s = rw (s .same-count)
 
 pub same-map : SameMap
 unfolding openOf openNumber readOf readNumber
-same-map c m m′ s n = record {
-  opened = λ b. rw (n, top-same c m m′ s, opened-same c m m′ s, s .same-count);
-  read = λ w xs records. rw (n, top-same c m m′ s, s .same-count, run-same c m m′ s w xs, records-same c m m′ s w xs);
+same-map c m m′ s f n = record {
+  opened = λ b. rw (n, top-same c m m′ s, opened-same c m m′ s f, s .same-count);
+  read = λ w xs records. rw (n, top-same c m m′ s, s .same-count, run-same c m m′ s f w xs, records-same c m m′ s f w xs);
 }
 
 pub converted-alike : ConvertedAlike
 converted-alike version wished m room bytes z =
     let made = converted-maps version wished m room bytes z in
-    same-map Newer m _ (made .same-registers) (accepted version m room z .good ∙ sym (made .good))
+    same-map Newer m _ (made .same-registers) (sym (made .same-flags)) (accepted version m room z .good ∙ sym (made .good))

@@ -2,9 +2,8 @@
 use Prim.Native.Nat.{ℕ, zero, suc, _+_, _-_}
 use mathlib.Core.Path.{_≡_, refl, sym, ap, _∙_}
 use mathlib.Core.Bool.{Bool, true, false, cond, not, _||_}
-use mathlib.Core.List.{List, [], _∷_, _++_, map, append-assoc}
+use mathlib.Core.List.{List, [], _∷_, _++_, map}
 use native.Mathlib.Omega.{arith}
-use native.Mathlib.Nat.{add-assoc, zero-add}
 use lib.ListN.{length, take, drop}
 use lib.Pow.{areBytes}
 use lib.Dec.{eqb, ltb}
@@ -17,10 +16,7 @@ use Rattle.chip.specs.declared.Chip.{Chip}
 use Rattle.chip.specs.declared.Chip.the-variants.{Newer}
 use Rattle.settings.specs.declared.Settings.{Settings}
 use Rattle.settings.specs.Settings.{newerAfter}
-use Rattle.session.specs.Step.{stepOf}
-use Rattle.session.specs.Event.{eventOf}
-use Rattle.run.specs.Reading.{World, worldAfter, runOf, recordsOf, recordCount}
-use Rattle.records.specs.Records.{recordOf, recordsIn}
+use Rattle.run.specs.Reading.{World, runOf, recordsOf, recordCount}
 use Rattle.refusals.specs.Numbers.{samplesGood, readNumber}
 use Rattle.reader.specs.Calls.{outcome, readOf}
 use Rattle.order.specs.Order.{Order, RunByte, isRead, runBytes}
@@ -33,26 +29,9 @@ use Rattle.guarantees.specs.AtRest.{AtRest, Accepted}
 use Rattle.guarantees.specs.Book.{clearOfSettings}
 use Rattle.guarantees.specs.ReadBack.{settingsLeft}
 use Rattle.guarantees.specs.SetupReadBack.{worldPast, worldLeft, setupRecords, setupBytes, configuresLast, anyOrder, SetupReadBack}
-use Rattle.guarantees.proofs.Calls.{run-append}
+use Rattle.guarantees.proofs.Calls.{run-append, records-append, count-append}
 use Rattle.guarantees.proofs.Done.{run-sound, rest-sound, mapped-fits, no-refusal, good-append, good-samples}
 use Rattle.guarantees.proofs.ReadBack.{session-end, banks-end, count-end, records-end}
-
--- ---- samples joined
-
-records-append : (c : Chip) (m : List ℕ) (w : World) (xs ys : List ℕ) → recordsOf c m w (xs ++ ys) ≡ recordsOf c m w xs ++ recordsOf c m (runOf c m w xs) ys
-unfolding recordsOf runOf
-records-append c m w [] ys = refl
-records-append c m w (x ∷ xs) ys =
-    rw (records-append c m (worldAfter c m w x) xs ys)
-    (sym (append-assoc (recordOf c m (w .banks) (w .session .settings) (eventOf c (w .session) x)) (recordsOf c m (worldAfter c m w x) xs) _))
-
-count-append : (c : Chip) (m : List ℕ) (w : World) (xs ys : List ℕ)
-    → recordCount c (w .session) (xs ++ ys) ≡ recordCount c (w .session) xs + recordCount c (runOf c m w xs .session) ys
-unfolding recordCount runOf
-count-append c m w [] ys = sym (zero-add _)
-count-append c m w (x ∷ xs) ys =
-    rw (count-append c m (worldAfter c m w x) xs ys)
-    (sym (add-assoc (recordsIn (eventOf c (w .session) x)) (recordCount c (stepOf c (w .session) x) xs) _))
 
 -- ---- a read, or a write clear of 0x0000 and 0x0001, leaves the settings as they were
 
@@ -124,7 +103,7 @@ module _ (m : List ℕ) (w : World) (o : Order) (room : ℕ) (rest : AtRest Newe
   past : runOf Newer m w (samplesOf Newer o) ≡ worldPast m w o
   past = λ i. record { session = session-end Newer m w o room rest accepted i; banks = banks-end Newer m w o room rest accepted i }
 
-  rests-again : settingsLeft Newer (isRead o) (w .session .settings) (runBytes Newer o) ≡ w .session .settings → AtRest Newer m (worldPast m w o) o
+  rests-again : settingsLeft Newer (isRead o) (w .session .port .settings) (runBytes Newer o) ≡ w .session .port .settings → AtRest Newer m (worldPast m w o) o
   rests-again e =
       let s = rw past at (run-sound Newer m w (samplesOf Newer o) (rest-sound Newer m w o rest)) in
       record {
@@ -143,7 +122,7 @@ module _ (m : List ℕ) (w : World) (o : Order) (room : ℕ) (rest : AtRest Newe
 record Left (m : List ℕ) (w : World) (os : List Order) : Type 0 where
   world : runOf Newer m w (allSamples Newer os) ≡ worldLeft m w os
   records : recordsOf Newer m w (allSamples Newer os) ≡ setupRecords m w os
-  count : recordCount Newer (w .session) (allSamples Newer os) ≡ setupBytes os
+  count : recordCount Newer (w .session .port) (allSamples Newer os) ≡ setupBytes os
   good : samplesGood (allSamples Newer os) ≡ true
 
 left-none : (m : List ℕ) (w : World) → Left m w []
@@ -172,7 +151,7 @@ left-all m w settings (o ∷ []) rest a h =
     left-more m w o [] _ (same-rest m w (anyOrder settings) o (a .0) rest) (a .1) (left-none m (worldPast m w o))
 left-all m w settings (o ∷ p ∷ os) rest a h =
     let r = same-rest m w (anyOrder settings) o (a .0) rest in
-    let kept = settings-kept (isRead o) (w .session .settings) (runBytes Newer o) (and-left (isRead o || clearOfSettings Newer (runBytes Newer o)) (configuresLast (p ∷ os)) h) in
+    let kept = settings-kept (isRead o) (w .session .port .settings) (runBytes Newer o) (and-left (isRead o || clearOfSettings Newer (runBytes Newer o)) (configuresLast (p ∷ os)) h) in
     let again = same-rest m (worldPast m w o) o (anyOrder settings) (sym (a .0)) (rests-again m w o _ r (a .1) kept) in
     left-more m w o (p ∷ os) _ r (a .1)
     (left-all m (worldPast m w o) settings (p ∷ os) again (a .2) (and-right (isRead o || clearOfSettings Newer (runBytes Newer o)) (configuresLast (p ∷ os)) h))

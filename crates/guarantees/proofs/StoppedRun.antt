@@ -1,71 +1,97 @@
--- Demand 3: the list of calls is one run of the samples that are to be read; the raise writes nothing; and before it the banks are the book's.
-use Prim.Native.Nat.{ℕ}
+-- Demand 3: the list of calls is one run of the samples that are to be read; before the raise the banks are those of the whole bytes, and the
+-- raise moves what they have armed.
+use Prim.Native.Nat.{ℕ, _≤_}
 use mathlib.Core.Path.{_≡_, refl, ap, sym, _∙_}
-use mathlib.Core.Bool.{true, false, and-false, false≢true}
-use mathlib.Core.List.{List, [], _∷_}
-use lib.Dec.{eqb}
-use lib.ListN.{take}
+use mathlib.Core.Bool.{Bool, true, false, and-false, false≢true}
+use mathlib.Core.List.{List, [], _∷_, _++_, append-assoc}
+use native.Mathlib.Decide.{decLe}
+use native.Mathlib.Omega.{arith}
+use lib.ListN.{length, length-append, take}
+use lib.Seq.{take-all, take-append-le}
 use borrow.Author.Tests.{eqb-true}
+use Rattle.bits.specs.Bits.{bitAt}
 use Rattle.bits.proofs.Cases.{each}
 use Rattle.chip.specs.declared.Chip.{Chip}
 use Rattle.chip.specs.declared.Chip.the-variants.{Newer, Older}
 use Rattle.chip.specs.Chip.{isNewer}
-use Rattle.session.specs.declared.Session.{Session}
-use Rattle.session.specs.declared.Event.{Event}
-use Rattle.session.specs.State.{isCounted, lengthGood}
-use Rattle.session.specs.Step.{csbOf, csbRises, takesBit, frameStarts, frameEnds, stepOf}
-use Rattle.session.specs.Event.{abortEvent, eventOf}
+use Rattle.session.specs.declared.Port.{Port}
+use Rattle.session.specs.State.{isCounted, lengthGood, soundSession}
+use Rattle.session.specs.Step.{csbOf, takesBit, frameStarts, frameEnds, stepOf}
 use Rattle.session.proofs.Form.{Form, sound-form}
 use Rattle.session.proofs.Form as form
-use Rattle.registers.specs.Banks.{Banks}
-use Rattle.records.specs.BanksAfter.{banksAfter}
+use Rattle.session.proofs.Laws.{sound-step, port-sound}
+use Rattle.writing.specs.Rise.{riseBanks}
 use Rattle.run.specs.Reading.{World, worldAfter, runOf}
+use Rattle.order.specs.Order.{Order}
 use Rattle.order.specs.Samples.{samplesOf}
-use Rattle.guarantees.specs.Book.{bookOf}
+use Rattle.guarantees.specs.Book.{wholeRun, writeAll, armedAll, bookOf}
 use Rattle.guarantees.specs.Calls.{afterCalls}
-use Rattle.guarantees.specs.StoppedRun.{stoppedSamples, StoppedRun, Stops, rests, stalls, StoppedSession}
+use Rattle.guarantees.specs.StoppedRun.{stoppedSamples, StoppedRun, BeforeRaise, Stops, rests, stalls, StoppedSession}
+use Rattle.guarantees.proofs.Events.{Held}
 use Rattle.guarantees.proofs.Calls.{run-append, calls-run}
-use Rattle.guarantees.proofs.Counts.{whole-effect}
-use Rattle.guarantees.proofs.Done.{run-sound, rest-sound}
+use Rattle.guarantees.proofs.Orders.{unraised, raised-last}
+use Rattle.guarantees.proofs.Counts.{run-written, whole-effect}
+use Rattle.guarantees.proofs.Done.{sound-run}
+use Rattle.guarantees.proofs.Raise.{rest-disarmed, raise-takes-nothing, raise-banks, raise-disarms, raise-twice}
 
-raise-takes-nothing : (s : Session) (raise : ℕ) → csbOf raise ≡ true → takesBit s raise ≡ false
-raise-takes-nothing s raise h = rw (h, and-false)
-
--- a raise breaks a piece off, or nothing happens
-raise-writes-nothing : (c : Chip) (m : List ℕ) (b : Banks) (s : Session) (raise : ℕ) → csbOf raise ≡ true → banksAfter c m b (eventOf c s raise) ≡ b
-unfolding eventOf abortEvent banksAfter
-raise-writes-nothing c m b s raise h =
-    rw (raise-takes-nothing s raise h)
-    (each same (csbRises s raise) (λ e. each same (eqb (s .bits) 0) (λ e. refl) (λ e. refl)) (λ e. refl))
+-- what the raise leaves of a run stopped after any of its samples: sent whole, its own last sample is the rise, and the raise comes second
+raised-run : (c : Chip) (m : List ℕ) (w : World) (o : Order) (s raise : ℕ) → soundSession c (w .session) ≡ true → csbOf raise ≡ true
+    → runOf c m w (stoppedSamples c o s raise) .banks
+    ≡ riseBanks c m (runOf c m w (take s (unraised c o)) .session .armed) (runOf c m w (take s (unraised c o)) .banks)
+unfolding runOf bitAt
+raised-run c m w o s raise h raised = by (decLe s (length (unraised c o)))
   where
-    same : Event → Type 0
-    same e = banksAfter c m b e ≡ b
+    then : World
+    then = runOf c m w (take s (unraised c o))
+
+    sound : soundSession c (then .session) ≡ true
+    sound = sound-run c m w (take s (unraised c o)) h
+
+    by : Dec (s ≤ length (unraised c o)) → runOf c m w (stoppedSamples c o s raise) .banks ≡ riseBanks c m (then .session .armed) (then .banks)
+    by (yes few) =
+        ap (λ (l : List ℕ). runOf c m w (take s l ++ (raise ∷ [])) .banks) (raised-last c o)
+        ∙ ap (λ (l : List ℕ). runOf c m w (l ++ (raise ∷ [])) .banks) (take-append-le s (unraised c o) (0x01 ∷ []) few)
+        ∙ ap (λ (v : World). v .banks) (run-append c m w (take s (unraised c o)) (raise ∷ []))
+        ∙ raise-banks raise raised c m then sound
+    by (no many) =
+        ap (λ (l : List ℕ). runOf c m w (take s l ++ (raise ∷ [])) .banks) (raised-last c o)
+        ∙ ap (λ (l : List ℕ). runOf c m w (l ++ (raise ∷ [])) .banks)
+        (take-all s (unraised c o ++ (0x01 ∷ [])) (omega (arith, length-append (unraised c o) (0x01 ∷ []))))
+        ∙ ap (λ (l : List ℕ). runOf c m w l .banks) (append-assoc (unraised c o) (0x01 ∷ []) (raise ∷ []))
+        ∙ ap (λ (l : List ℕ). runOf c m w (l ++ (0x01 ∷ raise ∷ [])) .banks) (sym (take-all s (unraised c o) (omega arith)))
+        ∙ ap (λ (v : World). v .banks) (run-append c m w (take s (unraised c o)) (0x01 ∷ raise ∷ []))
+        ∙ raise-twice c m then 0x01 raise sound refl raised
 
 pub stopped-run : StoppedRun
-unfolding bookOf runOf
+unfolding bookOf
 stopped-run c m w o room s raise calls run read =
-    let before : World = runOf c m w (take s (samplesOf c o)) in
-    ap (λ (v : World). v .banks)
-    (calls-run c m w calls ∙ ap (runOf c m w) read ∙ run-append c m w (take s (samplesOf c o)) (raise ∷ []))
-    ∙ raise-writes-nothing c m (before .banks) (before .session) raise (run .raised)
-    ∙ whole-effect c m w o room s (run .start) (run .accepted) (run .write)
+    ap (λ (v : World). v .banks) (calls-run c m w calls ∙ ap (runOf c m w) read)
+    ∙ raised-run c m w o s raise (run .start .sound) (run .raised)
+    ∙ ap (λ (h : Held). riseBanks c m (h .armed) (h .banks)) (run-written c m w o room s (run .start) (run .accepted) (run .write))
+    ∙ ap (λ (k : Bool). riseBanks c m (armedAll c m (wholeRun c o s) (w .banks) k) (writeAll c m (wholeRun c o s) (w .banks)))
+    (rest-disarmed c (w .session) (run .start .sound) (run .start .at-rest))
+
+pub before-raise : BeforeRaise
+before-raise c m w o room s raise calls run early read =
+    ap (λ (v : World). v .banks) (calls-run c m w calls ∙ ap (runOf c m w) read)
+    ∙ whole-effect c m w o room s (run .start) (run .accepted) (run .write) early
 
 -- ---- where a stop leaves the session
 
-raise-high : (c : Chip) (s : Session) (raise : ℕ) → csbOf raise ≡ true → stepOf c s raise .csb ≡ true
+raise-high : (c : Chip) (s : Port) (raise : ℕ) → csbOf raise ≡ true → stepOf c s raise .csb ≡ true
 unfolding stepOf
 raise-high c s raise h =
     each High (frameStarts s raise) (λ e. absurd (false≢true (sym starts-nothing ∙ e)))
-    (λ _. each High (takesBit s raise) (λ e. absurd (false≢true (sym (raise-takes-nothing s raise h) ∙ e)))
+    (λ _. each High (takesBit s raise) (λ e. absurd (false≢true (sym (raise-takes-nothing raise h s) ∙ e)))
     (λ _. each High (frameEnds s raise) (λ e. refl) (λ e. h)))
   where
-    High : Session → Type 0
+    High : Port → Type 0
     High next = next .csb ≡ true
 
     starts-nothing : frameStarts s raise ≡ false
     starts-nothing = rw (h, and-false)
 
-stops : {c : Chip} {s : Session} → Form c s → s .csb ≡ true → Stops c s
+stops : {c : Chip} {p : Port} → Form c p → p .csb ≡ true → Stops c (record { port = p; armed = false })
 stops (form.rests k t) high = rests k t
 stops (form.instructs k n v t u h g) high = absurd (false≢true high)
 stops (form.has-data k n v a r l t u h g f d) high = absurd (false≢true high)
@@ -79,9 +105,10 @@ stops (form.passes k t e) high = absurd (false≢true high)
 pub stopped-session : StoppedSession
 unfolding runOf
 stopped-session c m w o room s raise calls run read =
-    let samples = stoppedSamples c o s raise in
     let before : World = runOf c m w (take s (samplesOf c o)) in
     let same : afterCalls c m w calls ≡ worldAfter c m before raise =
     calls-run c m w calls ∙ ap (runOf c m w) read ∙ run-append c m w (take s (samplesOf c o)) (raise ∷ []) in
-    let sound = run-sound c m before (raise ∷ []) (run-sound c m w (take s (samplesOf c o)) (rest-sound c m w o (run .start))) in
-    rw same (stops (sound-form c (stepOf c (before .session) raise) (sound .session-sound)) (raise-high c (before .session) raise (run .raised)))
+    let sound = sound-run c m w (take s (samplesOf c o)) (run .start .sound) in
+    let port = stepOf c (before .session .port) raise in
+    rw (same, raise-disarms raise (run .raised) c m before sound)
+    (stops (sound-form c port (sound-step c (before .session .port) raise (port-sound c (before .session) sound))) (raise-high c (before .session .port) raise (run .raised)))

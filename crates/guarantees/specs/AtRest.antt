@@ -19,7 +19,7 @@ use Rattle.order.specs.Number.{sendNumber}
 
 -- the settings of a session that count on a chip
 abbrev pub countingOf : Chip → World → InUse
-countingOf c w = counting c (inUseOf (w .session .settings))
+countingOf c w = counting c (inUseOf (w .session .port .settings))
 
 -- Document 01, "Registers and session": a session at rest is sound and comes with a good map and banks of n bytes; the same
 -- settings means that those an order can name agree with it, the others being at will. Document 02, Ask 1: for an older chip the top is
@@ -28,10 +28,10 @@ pub record AtRest (c : Chip) (m : List ℕ) (w : World) (o : Order) : Type 0 whe
   pub good-map : mapNumber c m ≡ 0
   pub top : topFits c m ≡ true
   pub sound : soundSession c (w .session) ≡ true
-  pub at-rest : w .session .phase ≡ Rest
-  pub deselected : w .session .csb ≡ true
+  pub at-rest : w .session .port .phase ≡ Rest
+  pub deselected : w .session .port .csb ≡ true
   pub bank-sizes : banksFit m (w .banks) ≡ true
-  pub same-lsb : lsbFirst o ≡ w .session .settings .lsb
+  pub same-lsb : lsbFirst o ≡ w .session .port .settings .lsb
   pub same-direction : goesUp c o ≡ countingOf c w .ascending
   pub same-single : isSingle c o ≡ countingOf c w .single
 

@@ -1,13 +1,14 @@
 -- Document 01, "The sender" and "The stopped run": which bytes of a run are whole after s samples, and the book.
 use Prim.Native.Nat.{ℕ, _+_, _-_, _*_, _/_, min}
-use mathlib.Core.Bool.{Bool, true, cond, not, _&&_, _||_}
+use mathlib.Core.Bool.{Bool, true, false, cond, not, _&&_, _||_}
 use mathlib.Core.List.{List, [], _∷_}
 use lib.ListN.{length, take}
 use lib.Dec.{eqb}
 use Rattle.chip.specs.declared.Chip.{Chip}
 use Rattle.chip.specs.declared.Chip.the-variants.{Newer, Older}
 use Rattle.registers.specs.Banks.{Banks}
-use Rattle.writing.specs.Write.{writeBanks}
+use Rattle.writing.specs.Write.{effectAt, writeBanks}
+use Rattle.writing.specs.Rise.{armedBy, riseBanks}
 use Rattle.order.specs.Order.{Order, RunByte, isSingle, runBytes}
 use Rattle.order.specs.Number.{isConfiguration}
 
@@ -24,9 +25,20 @@ unfoldable pub writeAll : Chip → List ℕ → List RunByte → Banks → Banks
 writeAll c m [] b = b
 writeAll c m (p ∷ ps) b = writeAll c m ps (writeBanks c m b (p .address) (p .byte))
 
--- The book: for i = 1 to w it does the write of vi to ai. A broken byte makes no step.
+-- Document 02, Ask 4: whether the session is armed after them
+unfoldable pub armedAll : Chip → List ℕ → List RunByte → Banks → Bool → Bool
+armedAll c m [] b armed = armed
+armedAll c m (p ∷ ps) b armed =
+    armedAll c m ps (writeBanks c m b (p .address) (p .byte)) (armedBy c m armed (effectAt c m b (p .address) (p .byte)))
+
+-- the bytes of a run that are whole after s samples
+abbrev pub wholeRun : Chip → Order → ℕ → List RunByte
+wholeRun c o s = take (wholeBytes c o s) (runBytes c o)
+
+-- The book: for i = 1 to w it does the write of vi to ai. A broken byte makes no step. Document 02, Ask 4: last comes the rise; a run
+-- begins with a session that is not armed.
 unfoldable pub bookOf : Chip → List ℕ → Order → ℕ → Banks → Banks
-bookOf c m o s b = writeAll c m (take (wholeBytes c o s) (runBytes c o)) b
+bookOf c m o s b = riseBanks c m (armedAll c m (wholeRun c o s) b false) (writeAll c m (wholeRun c o s) b)
 
 -- 0x0000 or 0x0001 of a newer chip; document 02, Ask 1: 0x0000 or 0x0004 of an older one
 abbrev pub setsAnything : Chip → RunByte → Bool

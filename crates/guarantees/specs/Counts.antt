@@ -1,5 +1,5 @@
 -- Document 01, "The sender": the sample counts and the whole bytes are what the formulas say.
-use Prim.Native.Nat.{ℕ, _+_, _*_, _≤_}
+use Prim.Native.Nat.{ℕ, _+_, _*_, _<_, _≤_}
 use mathlib.Core.Path.{_≡_}
 use mathlib.Core.Bool.{false, cond}
 use mathlib.Core.List.{List}
@@ -10,7 +10,7 @@ use Rattle.run.specs.Reading.{World, runOf}
 use Rattle.order.specs.Order.{Order, isRead, isSingle, runBytes}
 use Rattle.order.specs.Samples.{samplesOf}
 use Rattle.guarantees.specs.AtRest.{AtRest, Accepted}
-use Rattle.guarantees.specs.Book.{wholeAfter, wholeBytes, writeAll}
+use Rattle.guarantees.specs.Book.{wholeAfter, wholeBytes, wholeRun, writeAll}
 
 -- Streaming gives 35 + 16k samples, single instruction 3 + 48k.
 abbrev pub SampleCount : Type 0
@@ -24,8 +24,10 @@ WholeByte =
     (c : Chip) (o : Order) (s i : ℕ) → 1 ≤ i → i ≤ length (runBytes c o)
     → leb i (wholeBytes c o s) ≡ leb (wholeAfter c o i) s
 
--- A write of any kind, read up to sample s with no raise yet: the banks are those of the bytes that are whole by then. So the formula is when a byte takes effect.
+-- A write of any kind, read up to sample s, before its last one, which raises the select: the banks are those of the bytes that are whole by
+-- then. So the formula is when a byte takes effect.
 abbrev pub WholeEffect : Type 0
 WholeEffect =
     (c : Chip) (m : List ℕ) (w : World) (o : Order) (room s : ℕ) → AtRest c m w o → Accepted c o room → isRead o ≡ false
-    → runOf c m w (take s (samplesOf c o)) .banks ≡ writeAll c m (take (wholeBytes c o s) (runBytes c o)) (w .banks)
+    → s < length (samplesOf c o)
+    → runOf c m w (take s (samplesOf c o)) .banks ≡ writeAll c m (wholeRun c o s) (w .banks)

@@ -1,8 +1,9 @@
 -- The companions of demand 3: what is in force, what waits, what a broken byte does, and that such lists of calls exist.
-use Prim.Native.Nat.{ℕ, _*_, _≤_}
+use Prim.Native.Nat.{ℕ, _*_, _<_, _≤_}
 use mathlib.Core.Path.{_≡_}
-use mathlib.Core.Bool.{Bool, true, false, _||_}
+use mathlib.Core.Bool.{Bool, true, false, _&&_, _||_}
 use mathlib.Core.List.{List, [], _∷_, _++_}
+use lib.Dec.{eqb}
 use lib.ListN.{length, getD, take}
 use Rattle.sizes.specs.Sizes.{recordSize}
 use Rattle.regmap.specs.declared.Entry.{Entry}
@@ -10,10 +11,12 @@ use Rattle.regmap.specs.Format.{registerAt, buffered}
 use Rattle.chip.specs.declared.Chip.{Chip}
 use Rattle.settings.specs.Settings.{transfersAt}
 use Rattle.registers.specs.Banks.{Banks}
+use Rattle.writing.specs.Rise.{movesAtRise}
 use Rattle.run.specs.Reading.{World, recordCount}
-use Rattle.order.specs.Order.{Order, RunByte, runBytes}
+use Rattle.order.specs.Order.{Order, RunByte}
+use Rattle.order.specs.Samples.{samplesOf}
 use Rattle.guarantees.specs.Calls.{Call, isDone, afterCalls, joined}
-use Rattle.guarantees.specs.Book.{wholeBytes, writeAll}
+use Rattle.guarantees.specs.Book.{wholeBytes, wholeRun, writeAll}
 use Rattle.guarantees.specs.StoppedRun.{Run, stoppedSamples}
 
 -- Document 01, "The stopped run": a transfer is 0x000F written with bit 0 set. Document 02, Ask 1: 0x0005 is it on an older chip.
@@ -24,14 +27,24 @@ unfoldable pub anyTransfer : Chip → List RunByte → Bool
 anyTransfer c [] = false
 anyTransfer c (p ∷ ps) = isTransfer c p || anyTransfer c ps
 
--- the bytes of a run that are whole after s samples
-abbrev pub wholeRun : Chip → Order → ℕ → List RunByte
-wholeRun c o s = take (wholeBytes c o s) (runBytes c o)
+-- Document 02, Ask 4: some byte goes to a buffered register
+unfoldable pub anyBuffered : List ℕ → List RunByte → Bool
+anyBuffered m [] = false
+anyBuffered m (p ∷ ps) = eqb (registerAt m (p .address) .kind) buffered || anyBuffered m ps
 
--- A list of calls for a run stopped after s samples, and a buffered register of the map.
+-- the raise after s samples moves the buffered registers
+abbrev pub movesAfter : Chip → List ℕ → Order → ℕ → Bool
+movesAfter c m o s = anyBuffered m (wholeRun c o s) && movesAtRise c m
+
+-- A list of calls for a run stopped after s samples: before the raise, or with one that moves nothing.
+pub data Unmoved (c : Chip) (m : List ℕ) (w : World) (o : Order) (s raise : ℕ) (calls : List Call) : Type 0 where
+  unraised : s < length (samplesOf c o) → joined c m w calls ≡ take s (samplesOf c o) → Unmoved c m w o s raise calls
+  still : movesAfter c m o s ≡ false → joined c m w calls ≡ stoppedSamples c o s raise → Unmoved c m w o s raise calls
+
+-- such a list, and a buffered register of the map
 pub record Stopped (c : Chip) (m : List ℕ) (w : World) (o : Order) (room s raise : ℕ) (calls : List Call) (a : ℕ) : Type 0 where
   pub run : Run c m w o room raise
-  pub read : joined c m w calls ≡ stoppedSamples c o s raise
+  pub read : Unmoved c m w o s raise calls
   pub kind : registerAt m a .kind ≡ buffered
 
 -- A buffered register keeps what was in force while no transfer has been whole.
@@ -51,6 +64,15 @@ LastTransfer =
     → wholeRun c o s ≡ before ++ (transfer ∷ later) → isTransfer c transfer ≡ true → anyTransfer c later ≡ false
     → getD (afterCalls c m w calls .banks .active) a 0 ≡ getD (writeAll c m before (w .banks) .buffer) a 0
 
+-- Document 02, Ask 4: a raise that moves puts in force what the whole bytes have left in the buffer stage of each buffered register.
+abbrev pub InForceAtRaise : Type 0
+InForceAtRaise =
+    (c : Chip) (m : List ℕ) (w : World) (o : Order) (room s raise : ℕ) (calls : List Call) (a : ℕ)
+    → Run c m w o room raise
+    → joined c m w calls ≡ stoppedSamples c o s raise → registerAt m a .kind ≡ buffered
+    → movesAfter c m o s ≡ true
+    → getD (afterCalls c m w calls .banks .active) a 0 ≡ getD (writeAll c m (wholeRun c o s) (w .banks) .buffer) a 0
+
 -- A broken byte changes nothing: stopped inside a byte, or where the bytes before it had just become whole, both stages are the same.
 abbrev pub BrokenByte : Type 0
 BrokenByte =
@@ -66,7 +88,7 @@ NextDone =
     (c : Chip) (m : List ℕ) (w : World) (o : Order) (room s raise : ℕ) (calls : List Call) (next rest records : List ℕ)
     → Run c m w o room raise
     → joined c m w calls ++ (next ++ rest) ≡ stoppedSamples c o s raise
-    → recordSize * recordCount c (afterCalls c m w calls .session) next ≤ length records
+    → recordSize * recordCount c (afterCalls c m w calls .session .port) next ≤ length records
     → isDone c m (afterCalls c m w calls) (record { samples = next; records = records }) ≡ true
 
 -- a list of calls for a run stopped after s samples, the first of which is refused

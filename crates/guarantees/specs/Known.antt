@@ -3,7 +3,7 @@ use Prim.Native.Nat.{ℕ, zero, suc, _+_, _*_}
 use mathlib.Core.Path.{_≡_}
 use mathlib.Core.Bool.{Bool, true, false}
 use mathlib.Core.List.{List, [], _∷_, _++_}
-use lib.ListN.{length, replicate, getD}
+use lib.ListN.{length, replicate, getD, take}
 use Rattle.bits.specs.Bits.{merged}
 use Rattle.chip.specs.declared.Chip.the-variants.{Newer}
 use Rattle.regmap.specs.Format.{lengthOf, versionOf, countOf}
@@ -36,6 +36,10 @@ map16Flags = 0x00 ∷ 0x34 ∷ 2 ∷ 0 ∷ 16 ∷ 0 ∷ entries16
 abbrev pub map17 : List ℕ
 map17 = 0x00 ∷ 0x36 ∷ 1 ∷ 0 ∷ 17 ∷ (entries16 ++ (3 ∷ 0xFF ∷ 0x11 ∷ []))
 
+-- the same in version 2, with the flag
+abbrev pub map17Flagged : List ℕ
+map17Flagged = 0x00 ∷ 0x37 ∷ 2 ∷ 0 ∷ 17 ∷ 1 ∷ (entries16 ++ (3 ∷ 0xFF ∷ 0x11 ∷ []))
+
 -- a good map of 8,192 registers: those sixteen, and 8,176 blank ones of three bytes behind them
 abbrev pub map8192 : List ℕ
 map8192 = (0x60 ∷ 0x03 ∷ 1 ∷ 0x20 ∷ 0x00 ∷ entries16) ++ replicate (3 * 8176) 0
@@ -43,6 +47,10 @@ map8192 = (0x60 ∷ 0x03 ∷ 1 ∷ 0x20 ∷ 0x00 ∷ entries16) ++ replicate (3 
 -- a streaming write of one byte; 1 as the settings number is LSB first
 abbrev pub writeOne : ℕ → ℕ → ℕ → Order
 writeOne settings a v = record { direction = 0; settings = settings; start = a; count = 1; bytes = v ∷ [] }
+
+-- a streaming write of 0x22 to 0x0010 and of 0x33 to the address below it
+abbrev pub writeTwo : Order
+writeTwo = record { direction = 0; settings = 0; start = 0x0010; count = 2; bytes = 0x22 ∷ 0x33 ∷ [] }
 
 -- an ascending write of 1,000 bytes: settings number 2, or 6 with single instruction
 abbrev pub writeThousand : ℕ → Order
@@ -62,7 +70,11 @@ after orders = runOf Newer map17 (opened map17) (allSamples Newer orders)
 
 -- the byte that 0x0010 is then due to answer
 abbrev pub due10 : World → ℕ
-due10 w = dueByte Newer map17 (w .banks) (w .session .settings) 0x0010
+due10 w = dueByte Newer map17 (w .banks) (w .session .port .settings) 0x0010
+
+-- the byte that is in force at 0x0010 of the flagged map, after opening and some samples
+abbrev pub inForce10 : List ℕ → ℕ
+inForce10 xs = getD (runOf Newer map17Flagged (opened map17Flagged) xs .banks .active) 0x0010 0
 
 abbrev pub bitsOfDigits : List ℕ → List Bool
 bitsOfDigits [] = []
@@ -113,6 +125,15 @@ pub record KnownResults : Type 0 where
   pub due-11 : due10 (after (writeOne 0 0x0010 0x22 ∷ [])) ≡ 0x11
   pub due-22 : due10 (after (writeOne 0 0x0010 0x22 ∷ writeOne 0 0x0001 0x20 ∷ [])) ≡ 0x22
   pub active-22 : getD (after (writeOne 0 0x0010 0x22 ∷ writeOne 0 0x0001 0x20 ∷ writeOne 0 0x000F 0x01 ∷ []) .banks .active) 0x0010 0 ≡ 0x22
+  -- document 02, Ask 4: with the flag, 0x22 waits until the frame ends, and no record is added
+  pub good-17-flagged : mapNumber Newer map17Flagged ≡ 0
+  pub rise-waits : inForce10 (take 50 (samplesOf Newer (writeOne 0 0x0010 0x22))) ≡ 0x11
+  pub rise-moves : inForce10 (samplesOf Newer (writeOne 0 0x0010 0x22)) ≡ 0x22
+  pub rise-records : recordsAfterOpening map17Flagged (samplesOf Newer (writeOne 0 0x0010 0x22)) ≡ 1 ∷ 0x00 ∷ 0x10 ∷ 0x22 ∷ 0x22 ∷ 2 ∷ 0x33 ∷ []
+  -- and where the rise breaks the byte after it off
+  pub rise-cut-moves : inForce10 (stoppedSamples Newer writeTwo 53 0x01) ≡ 0x22
+  pub rise-cut-records : recordsAfterOpening map17Flagged (stoppedSamples Newer writeTwo 53 0x01)
+      ≡ 1 ∷ 0x00 ∷ 0x10 ∷ 0x22 ∷ 0x22 ∷ 2 ∷ 0x33 ∷ 3 ∷ 0x00 ∷ 0x0F ∷ 0x02 ∷ 0x01 ∷ 0 ∷ 0x00 ∷ []
   -- k = 1,000: 16,035 samples, or 48,003
   pub thousand : Sends (writeThousand 2) 16035
   pub thousand-single : Sends (writeThousand 6) 48003

@@ -12,13 +12,15 @@ use Rattle.settings.specs.Settings.{settingsAfter}
 use Rattle.session.specs.declared.Event.the-variants.{Whole}
 use Rattle.session.specs.State.{resting}
 use Rattle.registers.specs.Banks.{Banks}
+use Rattle.writing.specs.Write.{writeBanks}
+use Rattle.writing.specs.Rise.{riseBanks}
 use Rattle.records.specs.Records.{recordOf}
-use Rattle.records.specs.BanksAfter.{banksAfter}
 use Rattle.run.specs.Reading.{World}
 use Rattle.reader.specs.Calls.{Outcome, readOf}
 use Rattle.order.specs.Order.{Order, RunByte, isRead, runBytes}
 use Rattle.order.specs.Samples.{samplesOf}
 use Rattle.guarantees.specs.AtRest.{AtRest, Accepted}
+use Rattle.guarantees.specs.Book.{armedAll}
 
 -- the settings after a whole byte of a run: a read changes none
 abbrev pub settingsPast : Chip → Bool → Settings → RunByte → Settings
@@ -29,29 +31,37 @@ unfoldable pub settingsLeft : Chip → Bool → Settings → List RunByte → Se
 settingsLeft c read t [] = t
 settingsLeft c read t (p ∷ ps) = settingsLeft c read (settingsPast c read t p) ps
 
--- the banks that they leave
+-- the banks after a whole byte: a read changes none
+abbrev pub banksPast : Chip → List ℕ → Bool → Banks → RunByte → Banks
+banksPast c m read b p = cond read b (writeBanks c m b (p .address) (p .byte))
+
+-- the banks that the bytes leave
 unfoldable pub banksLeft : Chip → List ℕ → Bool → Banks → List RunByte → Banks
 banksLeft c m read b [] = b
-banksLeft c m read b (p ∷ ps) = banksLeft c m read (banksAfter c m b (Whole read (p .address) (p .byte))) ps
+banksLeft c m read b (p ∷ ps) = banksLeft c m read (banksPast c m read b p) ps
+
+-- Document 02, Ask 4: and those that the rise at the run's end leaves; a read arms no session
+abbrev pub banksRaised : Chip → List ℕ → Bool → Banks → List RunByte → Banks
+banksRaised c m read b ps = riseBanks c m (cond read false (armedAll c m ps b false)) (banksLeft c m read b ps)
 
 -- their records: one for each byte in order, with its address and its value
 unfoldable pub recordsLeft : Chip → List ℕ → Bool → Banks → Settings → List RunByte → List ℕ
 recordsLeft c m read b t [] = []
 recordsLeft c m read b t (p ∷ ps) =
     recordOf c m b t (Whole read (p .address) (p .byte))
-    ++ recordsLeft c m read (banksAfter c m b (Whole read (p .address) (p .byte))) (settingsPast c read t p) ps
+    ++ recordsLeft c m read (banksPast c m read b p) (settingsPast c read t p) ps
 
--- What reading a whole run leaves: as many records as the order counts, one for each of its bytes; the banks with these bytes;
--- and the session at rest again, with the settings that the bytes leave. The line bytes of a read are the zeros that were sent.
+-- What reading a whole run leaves: as many records as the order counts, one for each of its bytes; the banks with these bytes and
+-- their rise; and the session at rest again, with the settings that the bytes leave. The line bytes of a read are the zeros that were sent.
 abbrev pub readBackOf : Chip → List ℕ → World → Order → List ℕ → Outcome
 readBackOf c m w o records = record {
   number = 0;
   world = record {
-    session = resting false (settingsLeft c (isRead o) (w .session .settings) (runBytes c o));
-    banks = banksLeft c m (isRead o) (w .banks) (runBytes c o);
+    session = record { port = resting false (settingsLeft c (isRead o) (w .session .port .settings) (runBytes c o)); armed = false };
+    banks = banksRaised c m (isRead o) (w .banks) (runBytes c o);
   };
   count = o .count;
-  records = filled (recordsLeft c m (isRead o) (w .banks) (w .session .settings) (runBytes c o)) records;
+  records = filled (recordsLeft c m (isRead o) (w .banks) (w .session .port .settings) (runBytes c o)) records;
 }
 
 -- For any chip, any good map, any accepted order, any session at rest with the same settings and banks of n bytes, and room for a record a

@@ -4,7 +4,7 @@ use mathlib.Core.Path.{_≡_}
 use mathlib.Core.Bool.{true}
 use mathlib.Core.List.{List}
 use lib.Pow.{areBytes}
-use Rattle.regmap.specs.Format.{SameRegisters}
+use Rattle.regmap.specs.Format.{flagsOf, SameRegisters}
 use Rattle.maptest.specs.MapTest.{mapNumber}
 use Rattle.convert.specs.Convert.{convertedTo, convertNumber}
 use Rattle.convert.specs.Made.{Wished}
@@ -19,9 +19,9 @@ pub record ReadAlike (c : Chip) (m m′ : List ℕ) : Type 0 where
   pub opened : (b : Banks) → openOf c m b ≡ openOf c m′ b
   pub read : (w : World) (samples records : List ℕ) → readOf c m w samples records ≡ readOf c m′ w samples records
 
--- Maps with the same registers, which the map test gives the same number, are read alike.
+-- Maps with the same registers and flags, which the map test gives the same number, are read alike.
 abbrev pub SameMap : Type 0
-SameMap = (c : Chip) (m m′ : List ℕ) → SameRegisters m m′ → mapNumber c m ≡ mapNumber c m′ → ReadAlike c m m′
+SameMap = (c : Chip) (m m′ : List ℕ) → SameRegisters m m′ → flagsOf m ≡ flagsOf m′ → mapNumber c m ≡ mapNumber c m′ → ReadAlike c m m′
 
 -- So are a newer chip's map and what the converter makes of it.
 abbrev pub ConvertedAlike : Type 0

@@ -16,13 +16,13 @@ use Rattle.order.specs.Samples.{allSamples}
 use Rattle.setup.specs.Calls.{ordersOf, setupNumber}
 use Rattle.guarantees.specs.AtRest.{AtRest}
 use Rattle.guarantees.specs.Book.{clearOfSettings}
-use Rattle.guarantees.specs.ReadBack.{settingsLeft, banksLeft, recordsLeft}
+use Rattle.guarantees.specs.ReadBack.{settingsLeft, banksRaised, recordsLeft}
 
 -- the session and the banks that one order leaves
 abbrev pub worldPast : List ℕ → World → Order → World
 worldPast m w o = record {
-  session = resting false (settingsLeft Newer (isRead o) (w .session .settings) (runBytes Newer o));
-  banks = banksLeft Newer m (isRead o) (w .banks) (runBytes Newer o);
+  session = record { port = resting false (settingsLeft Newer (isRead o) (w .session .port .settings) (runBytes Newer o)); armed = false };
+  banks = banksRaised Newer m (isRead o) (w .banks) (runBytes Newer o);
 }
 
 -- those that several orders leave, one after the other
@@ -33,7 +33,7 @@ worldLeft m w (o ∷ os) = worldLeft m (worldPast m w o) os
 -- their records: one for each byte of each order, in order
 unfoldable pub setupRecords : List ℕ → World → List Order → List ℕ
 setupRecords m w [] = []
-setupRecords m w (o ∷ os) = recordsLeft Newer m (isRead o) (w .banks) (w .session .settings) (runBytes Newer o) ++ setupRecords m (worldPast m w o) os
+setupRecords m w (o ∷ os) = recordsLeft Newer m (isRead o) (w .banks) (w .session .port .settings) (runBytes Newer o) ++ setupRecords m (worldPast m w o) os
 
 unfoldable pub setupBytes : List Order → ℕ
 setupBytes [] = 0

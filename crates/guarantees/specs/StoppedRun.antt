@@ -3,11 +3,12 @@ use Prim.Native.Nat.{ℕ, _<_}
 use mathlib.Core.Path.{_≡_}
 use mathlib.Core.Bool.{Bool, true, false}
 use mathlib.Core.List.{List, [], _∷_, _++_}
-use lib.ListN.{take}
+use lib.ListN.{length, take}
 use Rattle.chip.specs.declared.Chip.{Chip}
 use Rattle.chip.specs.Chip.{isNewer}
 use Rattle.settings.specs.declared.Settings.{Settings}
 use Rattle.session.specs.declared.Phase.the-variants.{Data}
+use Rattle.session.specs.declared.Port.{Port}
 use Rattle.session.specs.declared.Session.{Session}
 use Rattle.session.specs.State.{resting, mayStall}
 use Rattle.session.specs.Step.{csbOf}
@@ -16,7 +17,7 @@ use Rattle.order.specs.Order.{Order, isRead, runBytes}
 use Rattle.order.specs.Samples.{samplesOf}
 use Rattle.guarantees.specs.AtRest.{AtRest, Accepted}
 use Rattle.guarantees.specs.Calls.{Call, afterCalls, joined}
-use Rattle.guarantees.specs.Book.{bookOf, clearOfSettings}
+use Rattle.guarantees.specs.Book.{wholeRun, writeAll, bookOf, clearOfSettings}
 
 -- A write run clear of 0x0000 and 0x0001, or 0x0004 on an older chip, that the sender accepts, for a session at rest, and a sample that
 -- raises the select.
@@ -41,11 +42,19 @@ StoppedRun =
     → joined c m w calls ≡ stoppedSamples c o s raise
     → afterCalls c m w calls .banks ≡ bookOf c m o s (w .banks)
 
--- Document 02, Ask 1: where a stop leaves a session. It is at rest; or, on an older chip and before a data byte of a counted run, it stalls:
+-- Document 02, Ask 4: before the raise, which a run that is sent whole ends with itself, both stages are the book's without the rise.
+abbrev pub BeforeRaise : Type 0
+BeforeRaise =
+    (c : Chip) (m : List ℕ) (w : World) (o : Order) (room s raise : ℕ) (calls : List Call)
+    → Run c m w o room raise
+    → s < length (samplesOf c o) → joined c m w calls ≡ take s (samplesOf c o)
+    → afterCalls c m w calls .banks ≡ writeAll c m (wholeRun c o s) (w .banks)
+
+-- Document 02, Ask 1: where a stop leaves a session, which is armed in no case. It is at rest; or, on an older chip and before a data byte of a counted run, it stalls:
 -- the select is high, and the next frame resumes the run.
 pub data Stops (c : Chip) : Session → Type 0 where
-  rests : (sclk : Bool) (t : Settings) → Stops c (resting sclk t)
-  stalls : (s : Session) → isNewer c ≡ false → s .csb ≡ true → s .phase ≡ Data → mayStall s ≡ true → Stops c s
+  rests : (sclk : Bool) (t : Settings) → Stops c (record { port = resting sclk t; armed = false })
+  stalls : (p : Port) → isNewer c ≡ false → p .csb ≡ true → p .phase ≡ Data → mayStall p ≡ true → Stops c (record { port = p; armed = false })
 
 -- So the claim above is of both stages alone: an older chip's next order may find a run that is not over.
 abbrev pub StoppedSession : Type 0

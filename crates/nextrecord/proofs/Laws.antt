@@ -15,24 +15,20 @@ use Rattle.sizes.specs.Sizes.{recordSize}
 use Rattle.maptest.specs.MapTest.{mapNumber, topFits}
 use Rattle.chip.specs.declared.Chip.{Chip}
 use Rattle.session.specs.declared.Session.{Session}
-use Rattle.session.specs.declared.Event.{Event}
-use Rattle.session.specs.State.{soundSession}
+use Rattle.session.specs.State.{soundPort, soundSession}
+use Rattle.session.proofs.Laws.{port-sound}
 use Rattle.registers.specs.Banks.{banks, Mapped}
-use Rattle.records.specs.Records.{recordsIn}
-use Rattle.records.specs.Contracts.{Taking, Taken}
-use Rattle.records.proofs.Laws.{record-size, place-after}
 use Rattle.run.specs.Reading.{World, world, recordCount}
-use Rattle.run.specs.Contracts.{Ready}
+use Rattle.run.specs.Contracts.{Ready, Ran}
 use Rattle.run.proofs.Bound.{records-bound}
-use Rattle.run.proofs.Counting.{counting-begun, counted-next, counting-ended}
-use Rattle.run.proofs.Laws.{begun, again, ended, records-size}
+use Rattle.run.proofs.Laws.{records-size}
 use Rattle.refusals.specs.Numbers.{banksFit, samplesGood, readNumber}
 use Rattle.refusals.proofs.Laws.{ReadTests, read-tests, fits-mapped}
 use Rattle.reader.specs.Calls.{Outcome, outcome}
 use Rattle.reader.proofs.Laws.{read-done}
 use Rattle.nextrecord.specs.NextRecord.{samplesNumber, nextNumber, next, nextOf}
-use Rattle.nextrecord.specs.Contracts.{First}
-use Rattle.nextrecord.proofs.Search.{taken-first, next-take}
+use Rattle.nextrecord.specs.Contracts.{Found}
+use Rattle.nextrecord.proofs.Search.{taken-within}
 
 -- numbers that agree where a test holds
 same-rest : (t : Bool) (n : ℕ) {p q : ℕ} → (t ≡ true → p ≡ q) → unless t n p ≡ unless t n q
@@ -54,8 +50,8 @@ room-enough c m w xs =
     (λ t. same-rest (leb (length xs) 65536 && samplesGood xs) 5
     (λ t.
     let few : length xs ≤ 65536 = leb-true (length xs) 65536 (and-left (leb (length xs) 65536) (samplesGood xs) t) in
-    let fits : recordSize * recordCount c (w .session) xs ≤ roomForAny = omega (arith, records-bound c (w .session) xs) in
-    rw (le-leb (recordSize * recordCount c (w .session) xs) roomForAny fits))))))
+    let fits : recordSize * recordCount c (w .session .port) xs ≤ roomForAny = omega (arith, records-bound c (w .session .port) xs) in
+    rw (le-leb (recordSize * recordCount c (w .session .port) xs) roomForAny fits))))))
 
 good-take : (k : ℕ) (xs : List ℕ) → samplesGood xs ≡ true → samplesGood (take k xs) ≡ true
 unfolding samplesGood
@@ -88,61 +84,60 @@ module _ (c : Chip) (m : List ℕ) (s : Session) (act buf xs old : List ℕ) whe
     pub mapped : Mapped m (banks act buf)
     mapped = fits-mapped m (banks act buf) (tested .fits)
 
-    module _ {e : Event} {t : Session} {j : ℕ} (f : First c xs s e t j) where
-      short : length (take j xs) ≡ j
-      short = length-take-le j xs (f .within)
+    -- the samples from the opened port on
+    pub port-tested : soundPort c (s .port) ≡ true
+    port-tested = port-sound c s (tested .sound)
+
+    module _ {j count : ℕ} (f : Found c (s .port) xs j count) where
+      within : j ≤ length xs
+      within = omega (arith, f .samples, taken-within c (s .port) xs)
+
+      pub short : length (take j xs) ≡ j
+      short = length-take-le j xs within
 
       -- the samples that are read give the one record or none
-      count-first : recordCount c s (take j xs) ≡ recordsIn e
-      count-first =
-          let end : length (take j xs) ≤ j = omega (arith, short) in
-          omega (arith, counting-ended end (counted-next (counting-begun c (take j xs) s (tested .sound)) (next-take (f .within) (f .path))))
+      count-first : recordCount c (s .port) (take j xs) ≡ count
+      count-first = rw (f .samples) (sym (f .records))
 
-      pub size-fits : recordSize * recordsIn e < 2 ^ 64
-      size-fits = omega (arith, count-first, records-bound c s (take j xs), short, f .within, few)
+      pub size-fits : recordSize * count < 2 ^ 64
+      size-fits = omega (arith, count-first, records-bound c (s .port) (take j xs), short, within, few)
 
       -- only the room is left to test
-      room-next : (r : ℕ) → r ≡ unless (leb (recordSize * recordsIn e) (length old)) 6 0 → r ≡ nextNumber c m given xs (length old)
+      room-next : (r : ℕ) → r ≡ unless (leb (recordSize * count) (length old)) 6 0 → r ≡ nextNumber c m given xs (length old)
       unfolding nextNumber
-      room-next r q = yes _ (eq-eqb (samplesNumber c m given xs) 0 (sym number ∙ zero-is)) (rw (taken-first f, count-first) q)
+      room-next r q = yes _ (eq-eqb (samplesNumber c m given xs) 0 (sym number ∙ zero-is)) (rw (sym (f .records)) q)
 
-      pub no-room : length old < recordSize * recordsIn e → next (outcome 6 given 0 old) 0 ≡ nextOf c m given xs old
-      no-room h = next-refused 6 (room-next 6 (no _ (lt-leb (recordSize * recordsIn e) (length old) h) refl)) (λ q. omega arith)
+      pub no-room : length old < recordSize * count → next (outcome 6 given 0 old) 0 ≡ nextOf c m given xs old
+      no-room h = next-refused 6 (room-next 6 (no _ (lt-leb (recordSize * count) (length old) h) refl)) (λ q. omega arith)
 
-      module _ (room : recordSize * recordsIn e ≤ length old) where
-        pub taking : Taking c m (banks act buf) (s .settings) e old 0
-        taking = record { mapped = mapped; room = omega (arith, record-size c m (banks act buf) (s .settings) e) }
-
+      module _ (room : recordSize * count ≤ length old) where
         -- the reader would not refuse just the samples that are read
         not-refused : 0 ≡ readNumber c m given (take j xs) (length old)
         unfolding readNumber
         not-refused =
             let good : samplesGood (take j xs) ≡ true = good-take j xs (and-right (leb (length xs) 65536) (samplesGood xs) (tested .samples)) in
-            let less : length (take j xs) ≤ 65536 = omega (arith, short, f .within, few) in
-            let fits : recordSize * recordCount c s (take j xs) ≤ length old = omega (arith, count-first) in
+            let less : length (take j xs) ≤ 65536 = omega (arith, short, within, few) in
+            let fits : recordSize * recordCount c (s .port) (take j xs) ≤ length old = omega (arith, count-first) in
             let samples : (leb (length (take j xs)) 65536 && samplesGood (take j xs)) ≡ true = rw (le-leb (length (take j xs)) 65536 less) good in
             yes _ (tested .sound)
             (yes _ (eq-eqb (mapNumber c m) 0 (tested .good-map))
             (yes _ (tested .fits)
             (yes _ (tested .top)
             (yes _ samples
-            (yes _ (le-leb (recordSize * recordCount c s (take j xs)) (length old) fits) refl)))))
+            (yes _ (le-leb (recordSize * recordCount c (s .port) (take j xs)) (length old) fits) refl)))))
 
-        ready : Ready c true m given (take j xs) old
+        pub ready : Ready c true m given (take j xs) old
         ready = record {
           sound = tested .sound;
-          few = omega (arith, short, f .within, few);
+          few = omega (arith, short, within, few);
           mapped = λ p. mapped;
           room = λ p. omega (arith, records-size c m (take j xs) given, count-first);
         }
 
-        pub next-done : {act′ buf′ new : List ℕ} {size : ℕ} → Taken c m (banks act buf) (s .settings) e old 0 (banks act′ buf′) new size
-            → (count : ℕ) → count ≡ recordsIn e → next (outcome 0 (world t act′ buf′) count new) j ≡ nextOf c m given xs old
+        pub next-done : {after : World} {size : ℕ} {new : List ℕ} → Ran c true m given (take j xs) old after size new
+            → next (outcome 0 after (size / recordSize) new) j ≡ nextOf c m given xs old
         unfolding nextOf
-        next-done {act′} {buf′} {new} {size} a count k =
-            let end : length (take j xs) ≤ j = omega (arith, short) in
-            let done = ended end (again (begun c m (take j xs) given old ready) (next-take (f .within) (f .path)) act′ buf′ new size a) in
-            let same : size / recordSize ≡ count = omega (arith, place-after a) in
-            let number : nextNumber c m given xs (length old) ≡ 0 = sym (room-next 0 (yes _ (le-leb (recordSize * recordsIn e) (length old) room) refl)) in
-            let read = rw same at (read-done c m given (take j xs) old 0 not-refused refl (world t act′ buf′) size new done) in
-            yes _ (eq-eqb (nextNumber c m given xs (length old)) 0 number) (rw (taken-first f) (ap (λ (o : Outcome). next o j) read))
+        next-done {after} {size} {new} ran =
+            let number : nextNumber c m given xs (length old) ≡ 0 = sym (room-next 0 (yes _ (le-leb (recordSize * count) (length old) room) refl)) in
+            let read = read-done c m given (take j xs) old 0 not-refused refl after size new (ran .done refl) in
+            yes _ (eq-eqb (nextNumber c m given xs (length old)) 0 number) (rw (sym (f .samples)) (ap (λ (o : Outcome). next o j) read))

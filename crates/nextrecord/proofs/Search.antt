@@ -1,101 +1,106 @@
--- The search for the next record: the samples passed give no event, and with the definition of the rest they are the whole.
+-- The search for the next record: the samples passed give none, and with the definition of the rest they are the whole.
 use Prim.Native.Nat.{ℕ, _+_, _<_, _≤_}
-use mathlib.Core.Path.{_≡_, refl, ap}
+use mathlib.Core.Path.{_≡_, refl, sym, ap, _∙_}
 use mathlib.Core.Bool.{Bool, true, false, cond}
-use mathlib.Core.List.{List}
+use mathlib.Core.Logic.{_≢_}
+use mathlib.Core.List.{List, [], _∷_}
 use native.Mathlib.Omega.{arith}
 use native.Mathlib.Numerals.{add-one}
 use lib.Dec.{eqb}
 use lib.ListN.{length, getD, take, drop, drop-of-length-le}
-use lib.Seq.{drop-cons, getD-take, length-take-le}
-use borrow.Author.Tests.{eqb-true}
+use lib.Seq.{drop-cons}
+use borrow.Author.Tests.{eq-eqb, ne-eqb}
 use Rattle.chip.specs.declared.Chip.{Chip}
-use Rattle.session.specs.declared.Session.{Session}
+use Rattle.session.specs.declared.Port.{Port}
 use Rattle.session.specs.declared.Event.{Event}
-use Rattle.session.specs.declared.Event.the-variants.{Nothing, Whole, Aborted}
-use Rattle.session.specs.State.{soundSession}
+use Rattle.session.specs.State.{soundPort}
 use Rattle.session.specs.Step.{stepOf}
 use Rattle.session.specs.Event.{eventOf}
 use Rattle.session.proofs.Laws.{sound-step}
 use Rattle.trace.specs.Path.{Quiet, still, more, Next, none, one}
-use Rattle.trace.proofs.Paths.{joined}
 use Rattle.records.specs.Records.{recordsIn}
-use Rattle.nextrecord.specs.NextRecord.{takenOf}
-use Rattle.nextrecord.specs.Contracts.{First}
+use Rattle.run.specs.Reading.{recordCount}
+use Rattle.nextrecord.specs.NextRecord.{takenOf, firstOf}
+use Rattle.nextrecord.specs.Contracts.{Found}
 
--- i samples are passed, and none gave an event
-pub record Searching (c : Chip) (xs : List ℕ) (s₀ s : Session) (i : ℕ) : Type 0 where
+-- how many records the samples give that are read
+abbrev countOf : Chip → Port → List ℕ → ℕ
+countOf c s xs = recordCount c s (firstOf c s xs)
+
+-- i samples are passed, and none gave a record
+pub record Searching (c : Chip) (xs : List ℕ) (s₀ s : Port) (i : ℕ) : Type 0 where
   pub within : i ≤ length xs
-  pub sound : soundSession c s ≡ true
-  pub path : Quiet c xs s₀ 0 s i
+  pub sound : soundPort c s ≡ true
+  pub samples : takenOf c s₀ xs ≡ takenOf c s (drop i xs) + i
+  pub records : countOf c s₀ xs ≡ countOf c s (drop i xs)
 
-no-event : (e : Event) → recordsIn e ≡ 0 → e ≡ Nothing
-no-event Nothing z = refl
-no-event (Whole r a v) z = absurd (omega (arith, z))
-no-event (Aborted a n d) z = absurd (omega (arith, z))
-
--- without a record the next samples are quiet too
-quiet-next : {c : Chip} {xs : List ℕ} {s t : Session} {i j : ℕ} {e : Event} → Next c xs s i e t j → recordsIn e ≡ 0 → Quiet c xs s i t j
-quiet-next (none q) z = q
-quiet-next (one q h) z = more q h (no-event _ z)
-
-sound-quiet : {c : Chip} {xs : List ℕ} {s t : Session} {i j : ℕ} → Quiet c xs s i t j → soundSession c s ≡ true → soundSession c t ≡ true
-sound-quiet still f = f
-sound-quiet (more q h e) f = sound-step _ _ _ (sound-quiet q f)
-
-pub search-on : {c : Chip} {xs : List ℕ} {s₀ s t : Session} {i j : ℕ} {e : Event} → Searching c xs s₀ s i → Next c xs s i e t j → j ≤ length xs → recordsIn e ≡ 0
-    → Searching c xs s₀ t j
-search-on k n h z =
-    let q = quiet-next n z in
-    record { within = h; sound = sound-quiet q (k .sound); path = joined (k .path) q }
-
--- one more sample, by the definition
-taken-next : (c : Chip) (xs : List ℕ) (s : Session) (j : ℕ) → j < length xs
-    → takenOf c s (drop j xs) ≡ cond (eqb (recordsIn (eventOf c s (getD xs j 0))) 0) (takenOf c (stepOf c s (getD xs j 0)) (drop (j + 1) xs) + 1) 1
+-- one sample, by whether it gives a record
+taken-on : (c : Chip) (s : Port) (x : ℕ) (xs : List ℕ) → recordsIn (eventOf c s x) ≡ 0 → takenOf c s (x ∷ xs) ≡ takenOf c (stepOf c s x) xs + 1
 unfolding takenOf
-taken-next c xs s j h = rw (add-one j, drop-cons xs j 0)
+taken-on c s x xs z = rw z
 
-taken-end : (c : Chip) (xs : List ℕ) (s : Session) (j : ℕ) → length xs ≤ j → takenOf c s (drop j xs) ≡ 0
+taken-here : (c : Chip) (s : Port) (x : ℕ) (xs : List ℕ) → recordsIn (eventOf c s x) ≢ 0 → takenOf c s (x ∷ xs) ≡ 1
 unfolding takenOf
-taken-end c xs s j h = rw (drop-of-length-le xs h)
+taken-here c s x xs z = rw (ne-eqb (recordsIn (eventOf c s x)) 0 z)
 
-taken-quiet : {c : Chip} {xs : List ℕ} {s t : Session} {i j : ℕ} → Quiet c xs s i t j → takenOf c s (drop i xs) + i ≡ takenOf c t (drop j xs) + j
-taken-quiet still = refl
-taken-quiet {c} {xs} (more {t} {j} q h e) =
-    let none : eqb (recordsIn (eventOf c t (getD xs j 0))) 0 ≡ true = ap (λ (v : Event). eqb (recordsIn v) 0) e in
-    omega (arith, taken-quiet q, rw none at (taken-next c xs t j h))
+count-on : (c : Chip) (s : Port) (x : ℕ) (xs : List ℕ) → recordsIn (eventOf c s x) ≡ 0 → countOf c s (x ∷ xs) ≡ countOf c (stepOf c s x) xs
+unfolding recordCount
+count-on c s x xs z = rw (taken-on c s x xs z, add-one) (omega (arith, z))
 
--- a sample with an event is the last, and so is the last of all
-taken-one : (c : Chip) (xs : List ℕ) (t : Session) (j : ℕ) → j < length xs → (recordsIn (eventOf c t (getD xs j 0)) ≡ 0 → j + 1 ≡ length xs)
-    → takenOf c t (drop j xs) ≡ 1
-taken-one c xs t j h all = go (eqb (recordsIn (eventOf c t (getD xs j 0))) 0) refl
+count-here : (c : Chip) (s : Port) (x : ℕ) (xs : List ℕ) → recordsIn (eventOf c s x) ≢ 0 → countOf c s (x ∷ xs) ≡ recordsIn (eventOf c s x)
+unfolding recordCount
+count-here c s x xs z = rw (taken-here c s x xs z) (omega arith)
+
+module _ {c : Chip} {xs : List ℕ} {s₀ : Port} where
+  pub search-begun : soundPort c s₀ ≡ true → Searching c xs s₀ s₀ 0
+  search-begun f = record { within = omega arith; sound = f; samples = omega arith; records = refl }
+
+  -- one sample without a record
+  passed : {s : Port} {i : ℕ} → Searching c xs s₀ s i → i < length xs → recordsIn (eventOf c s (getD xs i 0)) ≡ 0
+      → Searching c xs s₀ (stepOf c s (getD xs i 0)) (i + 1)
+  passed {s} {i} k h z =
+      let next : drop i xs ≡ getD xs i 0 ∷ drop (i + 1) xs = rw add-one (drop-cons xs i 0 h) in
+      record {
+        within = omega arith;
+        sound = sound-step c s (getD xs i 0) (k .sound);
+        samples = omega (arith, k .samples, ap (takenOf c s) next, taken-on c s (getD xs i 0) (drop (i + 1) xs) z);
+        records = k .records ∙ ap (countOf c s) next ∙ count-on c s (getD xs i 0) (drop (i + 1) xs) z;
+      }
+
+  quiet-passed : {s t : Port} {i j : ℕ} → Searching c xs s₀ s i → Quiet c xs s i t j → Searching c xs s₀ t j
+  quiet-passed k still = k
+  quiet-passed k (more q h e) = passed (quiet-passed k q) h (ap recordsIn e)
+
+  -- samples up to an event without a record
+  pub search-on : {s t : Port} {i j : ℕ} {e : Event} → Searching c xs s₀ s i → Next c xs s i e t j → recordsIn e ≡ 0 → Searching c xs s₀ t j
+  search-on k (none q) z = quiet-passed k q
+  search-on k (one q h) z = passed (quiet-passed k q) h z
+
+  -- the event gives one
+  pub found : {s t : Port} {i j : ℕ} {e : Event} → Searching c xs s₀ s i → Next c xs s i e t j → (n : ℕ) → n ≡ recordsIn e → n ≢ 0 → Found c s₀ xs j n
+  found k (none q) n given z = absurd (z given)
+  found k (one {t} {j} q h) n given z =
+      let next : drop j xs ≡ getD xs j 0 ∷ drop (j + 1) xs = rw add-one (drop-cons xs j 0 h) in
+      let here = quiet-passed k q in
+      let some : recordsIn (eventOf c t (getD xs j 0)) ≢ 0 = λ q. z (given ∙ q) in
+      record {
+        samples = omega (arith, here .samples, ap (takenOf c t) next, taken-here c t (getD xs j 0) (drop (j + 1) xs) some);
+        records = given ∙ sym (here .records ∙ ap (countOf c t) next ∙ count-here c t (getD xs j 0) (drop (j + 1) xs) some);
+      }
+
+  -- all samples are passed
+  pub none-found : {s : Port} {i : ℕ} → Searching c xs s₀ s i → length xs ≤ i → Found c s₀ xs i 0
+  unfolding takenOf recordCount
+  none-found {s} {i} k h =
+      let end : drop i xs ≡ [] = drop-of-length-le xs h in
+      record { samples = omega (arith, k .samples, ap (takenOf c s) end); records = sym (k .records ∙ ap (countOf c s) end) }
+
+-- no more samples are read than there are
+pub taken-within : (c : Chip) (s : Port) (xs : List ℕ) → takenOf c s xs ≤ length xs
+unfolding takenOf
+taken-within c s [] = omega arith
+taken-within c s (x ∷ xs) = go (eqb (recordsIn (eventOf c s x)) 0) (taken-within c (stepOf c s x) xs)
   where
-    go : (z : Bool) → eqb (recordsIn (eventOf c t (getD xs j 0))) 0 ≡ z → takenOf c t (drop j xs) ≡ 1
-    go false z = rw z at (taken-next c xs t j h)
-    go true z =
-        let end : length xs ≤ j + 1 = omega (arith, all (eqb-true _ 0 z)) in
-        omega (arith, rw z at (taken-next c xs t j h), taken-end c xs (stepOf c t (getD xs j 0)) (j + 1) end)
-
-first-taken : {c : Chip} {xs : List ℕ} {s t : Session} {e : Event} {j : ℕ} → Next c xs s 0 e t j → (recordsIn e ≡ 0 → j ≡ length xs) → takenOf c s xs ≡ j
-first-taken {c} {xs} {j = j} (none {t} q) all =
-    let end : length xs ≤ j = omega (arith, all refl) in
-    omega (arith, taken-quiet q, taken-end c xs t j end)
-first-taken {c} {xs} (one {t} {j} q h) all = omega (arith, taken-quiet q, taken-one c xs t j h all)
-
-pub taken-first : {c : Chip} {xs : List ℕ} {s t : Session} {e : Event} {j : ℕ} → First c xs s e t j → takenOf c s xs ≡ j
-taken-first f = first-taken (f .path) (f .all)
-
--- the same path over just the samples that are taken
-quiet-take : {c : Chip} {xs : List ℕ} {s t : Session} {i j : ℕ} (k : ℕ) → j ≤ k → k ≤ length xs → Quiet c xs s i t j → Quiet c (take k xs) s i t j
-quiet-take k h w still = still
-quiet-take {c} {xs} k h w (more {t} {j} q l e) =
-    let same : getD (take k xs) j 0 ≡ getD xs j 0 = getD-take k xs j 0 (omega arith) in
-    let less : j < length (take k xs) = omega (arith, length-take-le k xs w) in
-    rw same at (more (quiet-take k (omega arith) w q) less (rw same e))
-
-pub next-take : {c : Chip} {xs : List ℕ} {s t : Session} {e : Event} {j : ℕ} → j ≤ length xs → Next c xs s 0 e t j → Next c (take j xs) s 0 e t j
-next-take {j = j} w (none q) = none (quiet-take j (omega arith) w q)
-next-take {c} {xs} w (one {t} {j} q h) =
-    let same : getD (take (j + 1) xs) j 0 ≡ getD xs j 0 = getD-take (j + 1) xs j 0 (omega arith) in
-    let less : j < length (take (j + 1) xs) = omega (arith, length-take-le (j + 1) xs w) in
-    rw same at (one (quiet-take (j + 1) (omega arith) w q) less)
+    go : (z : Bool) → takenOf c (stepOf c s x) xs ≤ length xs → cond z (takenOf c (stepOf c s x) xs + 1) 1 ≤ length (x ∷ xs)
+    go true h = omega (arith, h)
+    go false h = omega arith

@@ -9,7 +9,7 @@ use lib.Dec.{eqb}
 use lib.ListN.{length, take}
 use borrow.Author.Tests.{eqb-true, eqb-false}
 use Rattle.chip.specs.declared.Chip.{Chip}
-use Rattle.session.specs.declared.Session.{Session}
+use Rattle.session.specs.declared.Port.{Port}
 use Rattle.session.specs.Step.{stepOf}
 use Rattle.session.specs.Event.{eventOf}
 use Rattle.records.specs.Records.{recordsIn}
@@ -17,7 +17,7 @@ use Rattle.run.specs.Reading.{recordCount}
 use Rattle.nextrecord.specs.NextRecord.{takenOf, firstOf}
 
 -- None of the samples before the last gives a record.
-pub none-before : (c : Chip) (s : Session) (xs : List ℕ) (k : ℕ) → k < takenOf c s xs → recordCount c s (take k xs) ≡ 0
+pub none-before : (c : Chip) (s : Port) (xs : List ℕ) (k : ℕ) → k < takenOf c s xs → recordCount c s (take k xs) ≡ 0
 unfolding takenOf recordCount
 none-before c s xs zero h = refl
 none-before c s [] (suc k) h = refl
@@ -30,7 +30,7 @@ none-before c s (x ∷ xs) (suc k) h = go (eqb (recordsIn (eventOf c s x)) 0) re
     go false z h rest = absurd (omega (arith, h))
 
 -- Without a record all samples are read.
-pub all-without : (c : Chip) (s : Session) (xs : List ℕ) → recordCount c s (firstOf c s xs) ≡ 0 → takenOf c s xs ≡ length xs
+pub all-without : (c : Chip) (s : Port) (xs : List ℕ) → recordCount c s (firstOf c s xs) ≡ 0 → takenOf c s xs ≡ length xs
 unfolding takenOf recordCount
 all-without c s [] h = refl
 all-without c s (x ∷ xs) h = go (eqb (recordsIn (eventOf c s x)) 0) refl h (λ e. all-without c (stepOf c s x) xs e)

@@ -8,7 +8,7 @@ use Rattle.bits.specs.Tests.{unless}
 use Rattle.sizes.specs.Sizes.{recordSize}
 use Rattle.maptest.specs.MapTest.{mapNumber, topFits}
 use Rattle.chip.specs.declared.Chip.{Chip}
-use Rattle.session.specs.declared.Session.{Session}
+use Rattle.session.specs.declared.Port.{Port}
 use Rattle.session.specs.State.{soundSession}
 use Rattle.session.specs.Step.{stepOf}
 use Rattle.session.specs.Event.{eventOf}
@@ -18,12 +18,12 @@ use Rattle.refusals.specs.Numbers.{banksFit, samplesGood}
 use Rattle.reader.specs.Calls.{Outcome, outcome, readOf}
 
 -- how many samples are read
-unfoldable pub takenOf : Chip → Session → List ℕ → ℕ
+unfoldable pub takenOf : Chip → Port → List ℕ → ℕ
 takenOf c s [] = 0
 takenOf c s (x ∷ xs) = cond (eqb (recordsIn (eventOf c s x)) 0) (takenOf c (stepOf c s x) xs + 1) 1
 
 -- the samples that are read
-abbrev pub firstOf : Chip → Session → List ℕ → List ℕ
+abbrev pub firstOf : Chip → Port → List ℕ → List ℕ
 firstOf c s xs = take (takenOf c s xs) xs
 
 -- Document 01, "Numbers given back": the reader's numbers before 6. 5 looks at all samples handed in.
@@ -40,7 +40,7 @@ samplesNumber c m w samples =
 unfoldable pub nextNumber : Chip → List ℕ → World → List ℕ → ℕ → ℕ
 nextNumber c m w samples room =
     unless (eqb (samplesNumber c m w samples) 0) (samplesNumber c m w samples)
-    (unless (leb (recordSize * recordCount c (w .session) (firstOf c (w .session) samples)) room) 6
+    (unless (leb (recordSize * recordCount c (w .session .port) (firstOf c (w .session .port) samples)) room) 6
     0)
 
 -- what the call leaves: what a call of the reader leaves, and how many samples were read
@@ -55,5 +55,5 @@ next o taken = record { outcome = o; taken = taken }
 unfoldable pub nextOf : Chip → List ℕ → World → List ℕ → List ℕ → Next
 nextOf c m w samples records =
     cond (eqb (nextNumber c m w samples (length records)) 0)
-    (next (readOf c m w (firstOf c (w .session) samples) records) (takenOf c (w .session) samples))
+    (next (readOf c m w (firstOf c (w .session .port) samples) records) (takenOf c (w .session .port) samples))
     (next (outcome (nextNumber c m w samples (length records)) w 0 records) 0)

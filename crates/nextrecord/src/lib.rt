@@ -6,22 +6,21 @@
 ghost use mathlib.Core.Path.{_≡_};
 ghost use mathlib.Core.Bool.{true};
 ghost use Rattle.chip.specs.declared.Chip.the-variants.{Newer, Older};
-ghost use Rattle.session.specs.State.{soundSession};
+ghost use Rattle.session.specs.State.{soundPort};
 ghost use Rattle.run.specs.Reading.{world};
 ghost use Rattle.reader.specs.Calls.{outcome};
 ghost use Rattle.nextrecord.specs.NextRecord.{samplesNumber, next, nextOf};
-ghost use Rattle.nextrecord.specs.Contracts.{First};
+ghost use Rattle.nextrecord.specs.Contracts.{Found};
 use chip::Chip;
 use chip::Part;
 use maptest::map_number;
 use records::records_in;
-use records::take_event;
 use refusals::read_refusal;
-use session::Event;
+use run::run_samples;
+use session::Port;
 use session::Session;
 use sizes::RECORD;
 use soundness::sound;
-use trace::Next;
 use trace::next_event;
 
 // What the call answers: the number, the next session, how many records there are, none or one, and how many samples were read.
@@ -30,6 +29,18 @@ pub struct NextRecord {
     pub session: Session,
     pub count: usize,
     pub taken: usize,
+}
+
+// What a refusal answers: the session as it was given, and nothing read.
+fn refusal(number: u8, session: Session) -> NextRecord
+    ensures { λ r. ⌜ r ≡ record { number = number; session = session; count = 0; taken = 0 } ⌝ }
+{
+    NextRecord {
+        number: number,
+        session: session,
+        count: 0,
+        taken: 0,
+    }
 }
 
 // Room for the records of any samples that are not refused: 65,536 give at most 21,846.
@@ -56,31 +67,33 @@ fn samples_refusal(
     1
 }
 
-// The samples up to and with the first that gives an event, or all of them.
-fn first_event(chip: Chip, session: Session, samples: &[u8]) -> Next
-    requires { ⌜ soundSession chip session ≡ true ⌝ }
-    ensures { λ r. ⌜ First chip (now (samples .entry)) session (r .event) (r .session) (r .at) ⌝ }
+// How many samples there are up to and with the first that gives a record, or all of them; and how many records they give.
+struct First {
+    at: usize,
+    count: usize,
+}
+
+// Looks for the first sample that gives a record.
+fn first_record(chip: Chip, port: Port, samples: &[u8]) -> First
+    requires { ⌜ soundPort chip port ≡ true ⌝ }
+    ensures { λ r. ⌜ Found chip port (now (samples .entry)) (r .at) (r .count) ⌝ }
 {
-    let mut s = session;
+    let mut s = port;
     let mut at: usize = 0;
     while at < samples.len() {
         let next = next_event(chip, s, samples, at);
         let event = next.event;
-        s = next.session;
+        let count = records_in(event);
+        s = next.port;
         at = next.at;
-        if records_in(event) != 0 {
-            return Next {
-                event: event,
-                session: s,
+        if count != 0 {
+            return First {
                 at: at,
+                count: count,
             };
         }
     }
-    Next {
-        event: Event::Nothing,
-        session: s,
-        at: at,
-    }
+    First { at: at, count: 0 }
 }
 
 // Reads samples of any chip up to and with the first that gives a record, or all of them.
@@ -97,31 +110,20 @@ pub fn next_on(
 {
     let refused = samples_refusal(chip, map, session, active, buffer, samples);
     if refused != 0 {
-        return NextRecord {
-            number: refused,
-            session: session,
-            count: 0,
-            taken: 0,
-        };
+        return refusal(refused, session);
     }
-    let first = first_event(chip, session, samples);
-    let event = first.event;
-    let count = records_in(event);
-    if records.len() < RECORD * count {
-        return NextRecord {
-            number: 6,
-            session: session,
-            count: 0,
-            taken: 0,
-        };
+    let port = session.port;
+    let first = first_record(chip, port, samples);
+    if records.len() < RECORD * first.count {
+        return refusal(6, session);
     }
-    let settings = session.settings;
-    take_event(chip, map, active, buffer, settings, event, records, 0);
-    let after = first.session;
+    let read = &samples[..first.at];
+    let passed = run_samples(chip, true, map, session, active, buffer, read, records);
+    let after = passed.session;
     NextRecord {
         number: 0,
         session: after,
-        count: count,
+        count: passed.size / RECORD,
         taken: first.at,
     }
 }

@@ -50,7 +50,7 @@ read-ready c m w xs records n e z =
       sound = t .sound;
       few = leb-true (length xs) 65536 (and-left (leb (length xs) 65536) (samplesGood xs) (t .samples));
       mapped = λ p. fits-mapped m (w .banks) (t .fits);
-      room = λ p. omega (arith, records-size c m xs w, leb-true (recordSize * recordCount c (w .session) xs) (length records) (t .enough));
+      room = λ p. omega (arith, records-size c m xs w, leb-true (recordSize * recordCount c (w .session .port) xs) (length records) (t .enough));
     }
 
 -- a call that is refused leaves all as it was
@@ -66,5 +66,5 @@ pub read-done : (c : Chip) (m : List ℕ) (w : World) (xs records : List ℕ) (n
     → outcome 0 after (size / recordSize) new ≡ readOf c m w xs records
 unfolding readOf
 read-done c m w xs records n e z after size new d =
-    let count : size / recordSize ≡ recordCount c (w .session) xs = omega (arith, d .size-is, records-size c m xs w) in
+    let count : size / recordSize ≡ recordCount c (w .session .port) xs = omega (arith, d .size-is, records-size c m xs w) in
     yes _ (eq-eqb (readNumber c m w xs (length records)) 0 (sym e ∙ z)) (rw (d .world-after, d .records-after, count))

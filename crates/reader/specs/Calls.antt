@@ -39,5 +39,5 @@ outcome number w count records = record { number = number; world = w; count = co
 unfoldable pub readOf : Chip → List ℕ → World → List ℕ → List ℕ → Outcome
 readOf c m w samples records =
     cond (eqb (readNumber c m w samples (length records)) 0)
-    (outcome 0 (runOf c m w samples) (recordCount c (w .session) samples) (filled (recordsOf c m w samples) records))
+    (outcome 0 (runOf c m w samples) (recordCount c (w .session .port) samples) (filled (recordsOf c m w samples) records))
     (outcome (readNumber c m w samples (length records)) w 0 records)

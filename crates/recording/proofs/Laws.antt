@@ -83,7 +83,7 @@ module _ (c : Chip) (m : List ℕ) (w : World) (samples records : List ℕ) wher
   unfolding readOf
   read-told top few room =
       let most : readNumber c m w samples (length records) ≤ 5 =
-      read-number-most c m (λ good. top) w samples (length records) (omega (arith, piece-bound c (w .session) samples few)) in
+      read-number-most c m (λ good. top) w samples (length records) (omega (arith, piece-bound c (w .session .port) samples few)) in
       each (λ (o : Outcome). o .number ≤ 5) (eqb (readNumber c m w samples (length records)) 0) (λ t. omega arith) (λ t. most)
 
   module _ {number count : ℕ} {after : World} {left : List ℕ} (e : outcome number after count left ≡ readOf c m w samples records) (full : length records ≡ recordSpace) where

@@ -1,5 +1,6 @@
 -- What follows from the definitions of an event's banks and record.
 use mathlib.Core.Path.{_≡_, refl, _∙_, ap}
+use mathlib.Core.Bool.{Bool}
 use mathlib.Core.List.{List}
 use Prim.Native.Nat.{ℕ, _+_, _*_}
 use lib.ListN.{length}
@@ -8,19 +9,21 @@ use Rattle.sizes.specs.Sizes.{recordSize}
 use Rattle.chip.specs.declared.Chip.{Chip}
 use Rattle.settings.specs.declared.Settings.{Settings}
 use Rattle.session.specs.declared.Event.{Event}
-use Rattle.session.specs.declared.Event.the-variants.{Nothing, Whole, Aborted}
+use Rattle.session.specs.declared.Event.the-variants.{Nothing, Whole, Aborted, Ended}
 use Rattle.registers.specs.Banks.{Banks, Mapped}
-use Rattle.writing.proofs.Laws.{mapped-write}
+use Rattle.writing.proofs.Laws.{mapped-write, mapped-rise}
+use Rattle.records.specs.declared.Took.{Took}
 use Rattle.records.specs.BanksAfter.{banksAfter}
 use Rattle.records.specs.Records.{recordOf, recordsIn}
 use Rattle.records.specs.Contracts.{Taken}
 
 -- an event keeps the sizes of the banks
-pub mapped-after : (c : Chip) (m : List ℕ) (b : Banks) (e : Event) → Mapped m b → Mapped m (banksAfter c m b e)
+pub mapped-after : (c : Chip) (m : List ℕ) (k : Bool) (b : Banks) (e : Event) → Mapped m b → Mapped m (banksAfter c m k b e)
 unfolding banksAfter
-mapped-after c m b Nothing h = h
-mapped-after c m b (Whole read a v) h = each (Mapped m) read (λ e. h) (λ e. mapped-write h c a v)
-mapped-after c m b (Aborted a bits d) h = h
+mapped-after c m k b Nothing h = h
+mapped-after c m k b (Whole read a v) h = each (Mapped m) read (λ e. h) (λ e. mapped-write h c a v)
+mapped-after c m k b (Aborted a bits d) h = mapped-rise h c k
+mapped-after c m k b Ended h = mapped-rise h c k
 
 -- how many bytes the records of an event have
 pub record-size : (c : Chip) (m : List ℕ) (b : Banks) (t : Settings) (e : Event) → length (recordOf c m b t e) ≡ recordSize * recordsIn e
@@ -28,8 +31,9 @@ unfolding recordOf
 record-size c m b t Nothing = refl
 record-size c m b t (Whole read a v) = each (λ (l : List ℕ). length l ≡ recordSize) read (λ e. refl) (λ e. refl)
 record-size c m b t (Aborted a bits d) = refl
+record-size c m b t Ended = refl
 
 -- so the place after an event that is taken is known without its record
-pub place-after : {c : Chip} {m : List ℕ} {b : Banks} {t : Settings} {e : Event} {old : List ℕ} {at : ℕ} {after : Banks} {new : List ℕ} {next : ℕ}
-    → Taken c m b t e old at after new next → next ≡ at + recordSize * recordsIn e
-place-after {c} {m} {b} {t} {e} {at = at} a = a .next-place ∙ ap (λ (n : ℕ). at + n) (record-size c m b t e)
+pub place-after : {c : Chip} {m : List ℕ} {k : Bool} {b : Banks} {t : Settings} {e : Event} {old : List ℕ} {at : ℕ} {after : Banks} {new : List ℕ} {took : Took}
+    → Taken c m k b t e old at after new took → took .at ≡ at + recordSize * recordsIn e
+place-after {c} {m} {b = b} {t} {e} {at = at} a = a .next-place ∙ ap (λ (n : ℕ). at + n) (record-size c m b t e)

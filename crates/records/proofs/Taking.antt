@@ -11,13 +11,16 @@ use Rattle.sizes.specs.Sizes.{recordSize}
 use Rattle.chip.specs.declared.Chip.{Chip}
 use Rattle.settings.specs.declared.Settings.{Settings}
 use Rattle.session.specs.declared.Event.{Event}
-use Rattle.session.specs.declared.Event.the-variants.{Nothing, Whole, Aborted}
+use Rattle.session.specs.declared.Event.the-variants.{Nothing, Whole, Aborted, Ended}
 use Rattle.registers.specs.Banks.{Banks}
 use Rattle.registers.specs.Read.{dueByte}
 use Rattle.writing.specs.declared.Written.{Written}
-use Rattle.writing.specs.Write.{Wrote}
+use Rattle.writing.specs.Write.{effectAt, Wrote}
+use Rattle.writing.specs.Rise.{armedOn, riseBanks}
+use Rattle.writing.proofs.Laws.{armed-number}
+use Rattle.records.specs.declared.Took.{Took}
 use Rattle.records.specs.Records.{recordOf, recordsIn, writeRecord, readRecord, abortRecord}
-use Rattle.records.specs.BanksAfter.{banksAfter}
+use Rattle.records.specs.BanksAfter.{banksAfter, armedAfter}
 use Rattle.records.specs.Contracts.{Taking, Taken}
 use Rattle.records.proofs.Laws.{record-size}
 
@@ -26,30 +29,44 @@ pub room-for : {c : Chip} {m : List ℕ} {b : Banks} {t : Settings} {e : Event} 
     → at + recordSize ≤ length old
 room-for {c} {m} {b} {t} {e} k one = omega (arith, record-size c m b t e, k .room)
 
-module _ {c : Chip} {m : List ℕ} {b : Banks} {t : Settings} {e : Event} {old : List ℕ} {at : ℕ} where
-  pub took-nothing : e ≡ Nothing → Taken c m b t e old at b old at
-  unfolding banksAfter recordOf
-  took-nothing ee = rw ee (record { banks-after = refl; records-after = refl; next-place = sym (add-zero at) })
+abbrev took : ℕ → Bool → Took
+took at armed = record { at = at; armed = armed }
+
+module _ {c : Chip} {m : List ℕ} {k : Bool} {b : Banks} {t : Settings} {e : Event} {old : List ℕ} {at : ℕ} where
+  pub took-nothing : e ≡ Nothing → Taken c m k b t e old at b old (took at k)
+  unfolding banksAfter armedAfter recordOf
+  took-nothing ee = rw ee (record { banks-after = refl; armed-after = refl; records-after = refl; next-place = sym (add-zero at) })
 
   pub took-read : {read : Bool} {a v due : ℕ} {new : List ℕ} → e ≡ Whole read a v → read ≡ true → due ≡ dueByte c m b t a
-      → new ≡ sets old at (readRecord a due v) → Taken c m b t e old at b new (at + recordSize)
-  unfolding banksAfter recordOf
+      → new ≡ sets old at (readRecord a due v) → Taken c m k b t e old at b new (took (at + recordSize) k)
+  unfolding banksAfter armedAfter recordOf
   took-read {a = a} {v} ee er ed en =
       rw (ee, er)
-      (record { banks-after = refl; records-after = en ∙ ap (λ (d : ℕ). sets old at (readRecord a d v)) ed; next-place = refl })
-
-  pub took-write : {read : Bool} {a v : ℕ} {w : Written} {after : Banks} {new : List ℕ} → e ≡ Whole read a v → read ≡ false
-      → Wrote c m b t a v w after → new ≡ sets old at (writeRecord a v w) → Taken c m b t e old at after new (at + recordSize)
-  unfolding banksAfter recordOf
-  took-write {a = a} {v} ee er k en =
-      rw (ee, er)
       (record {
-        banks-after = k .banks-after;
-        records-after = en ∙ ap (λ (w : Written). sets old at (writeRecord a v w)) (k .answer-is);
+        banks-after = refl;
+        armed-after = refl;
+        records-after = en ∙ ap (λ (d : ℕ). sets old at (readRecord a d v)) ed;
         next-place = refl;
       })
 
-  pub took-abort : {a bits : ℕ} {d : Bool} {new : List ℕ} → e ≡ Aborted a bits d → new ≡ sets old at (abortRecord a bits d)
-      → Taken c m b t e old at b new (at + recordSize)
-  unfolding banksAfter recordOf
-  took-abort ee en = rw ee (record { banks-after = refl; records-after = en; next-place = refl })
+  pub took-write : {read : Bool} {a v : ℕ} {w : Written} {after : Banks} {new : List ℕ} {l : Bool} → e ≡ Whole read a v → read ≡ false
+      → Wrote c m b t a v w after → new ≡ sets old at (writeRecord a v w) → l ≡ armedOn c m k (w .effect)
+      → Taken c m k b t e old at after new (took (at + recordSize) l)
+  unfolding banksAfter armedAfter recordOf
+  took-write {a = a} {v} ee er wrote en el =
+      rw (ee, er)
+      (record {
+        banks-after = wrote .banks-after;
+        armed-after = el ∙ ap (λ (w : Written). armedOn c m k (w .effect)) (wrote .answer-is) ∙ armed-number c m k t a v (effectAt c m b a v);
+        records-after = en ∙ ap (λ (w : Written). sets old at (writeRecord a v w)) (wrote .answer-is);
+        next-place = refl;
+      })
+
+  pub took-abort : {a bits : ℕ} {d : Bool} {after : Banks} {new : List ℕ} → e ≡ Aborted a bits d → after ≡ riseBanks c m k b
+      → new ≡ sets old at (abortRecord a bits d) → Taken c m k b t e old at after new (took (at + recordSize) false)
+  unfolding banksAfter armedAfter recordOf
+  took-abort ee ea en = rw ee (record { banks-after = ea; armed-after = refl; records-after = en; next-place = refl })
+
+  pub took-end : {after : Banks} → e ≡ Ended → after ≡ riseBanks c m k b → Taken c m k b t e old at after old (took at false)
+  unfolding banksAfter armedAfter recordOf
+  took-end ee ea = rw ee (record { banks-after = ea; armed-after = refl; records-after = refl; next-place = sym (add-zero at) })

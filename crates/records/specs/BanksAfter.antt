@@ -1,15 +1,25 @@
--- What an event does to the banks.
+-- What an event does to the banks, and whether the session is armed after it.
 use Prim.Native.Nat.{ℕ}
-use mathlib.Core.Bool.{cond}
+use mathlib.Core.Bool.{Bool, false, cond}
 use mathlib.Core.List.{List}
 use Rattle.chip.specs.declared.Chip.{Chip}
 use Rattle.session.specs.declared.Event.{Event}
-use Rattle.session.specs.declared.Event.the-variants.{Nothing, Whole, Aborted}
+use Rattle.session.specs.declared.Event.the-variants.{Nothing, Whole, Aborted, Ended}
 use Rattle.registers.specs.Banks.{Banks}
-use Rattle.writing.specs.Write.{writeBanks}
+use Rattle.writing.specs.Write.{effectAt, writeBanks}
+use Rattle.writing.specs.Rise.{armedBy, riseBanks}
 
--- Document 01, "What a whole byte does": a whole byte is written or read; a broken one does nothing.
-unfoldable pub banksAfter : Chip → List ℕ → Banks → Event → Banks
-banksAfter c m b Nothing = b
-banksAfter c m b (Whole read a v) = cond read b (writeBanks c m b a v)
-banksAfter c m b (Aborted a bits inData) = b
+-- Document 01, "What a whole byte does": a whole byte is written or read; a broken one does nothing. Document 02, Ask 4: the end of the
+-- frame of an armed session moves the buffered registers, also where it breaks a piece off.
+unfoldable pub banksAfter : Chip → List ℕ → Bool → Banks → Event → Banks
+banksAfter c m armed b Nothing = b
+banksAfter c m armed b (Whole read a v) = cond read b (writeBanks c m b a v)
+banksAfter c m armed b (Aborted a bits inData) = riseBanks c m armed b
+banksAfter c m armed b Ended = riseBanks c m armed b
+
+-- Ask 4: a write arms or disarms by its effect, and the end of the frame disarms
+unfoldable pub armedAfter : Chip → List ℕ → Bool → Banks → Event → Bool
+armedAfter c m armed b Nothing = armed
+armedAfter c m armed b (Whole read a v) = cond read armed (armedBy c m armed (effectAt c m b a v))
+armedAfter c m armed b (Aborted a bits inData) = false
+armedAfter c m armed b Ended = false

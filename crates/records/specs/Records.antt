@@ -7,7 +7,7 @@ use Rattle.bits.specs.Bytes.{wordBytes}
 use Rattle.chip.specs.declared.Chip.{Chip}
 use Rattle.settings.specs.declared.Settings.{Settings}
 use Rattle.session.specs.declared.Event.{Event}
-use Rattle.session.specs.declared.Event.the-variants.{Nothing, Whole, Aborted}
+use Rattle.session.specs.declared.Event.the-variants.{Nothing, Whole, Aborted, Ended}
 use Rattle.registers.specs.Banks.{Banks}
 use Rattle.registers.specs.Read.{dueByte}
 use Rattle.writing.specs.declared.Written.{Written}
@@ -34,9 +34,11 @@ unfoldable pub recordOf : Chip → List ℕ → Banks → Settings → Event →
 recordOf c m b t Nothing = []
 recordOf c m b t (Whole read a v) = cond read (readRecord a (dueByte c m b t a) v) (writeRecord a v (writtenOf c m b t a v))
 recordOf c m b t (Aborted a bits inData) = abortRecord a bits inData
+recordOf c m b t Ended = []
 
 -- how many records an event gives
 abbrev pub recordsIn : Event → ℕ
 recordsIn Nothing = 0
 recordsIn (Whole read a v) = 1
 recordsIn (Aborted a bits inData) = 1
+recordsIn Ended = 0

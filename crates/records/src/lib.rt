@@ -16,6 +16,8 @@ use settings::Settings;
 use sizes::RECORD;
 pub use slow::count_slow;
 use writing::Written;
+use writing::armed_on;
+use writing::end_frame;
 
 const WRITE: u8 = 1;
 
@@ -39,6 +41,7 @@ pub fn records_in(event: Event) -> usize
             bits: _,
             data: _,
         } => 1,
+        Event::Ended => 0,
     }
 }
 
@@ -106,22 +109,32 @@ fn put_abort(records: &mut [u8], at: usize, address: u16, bits: u8, in_data: boo
     }
 }
 
-// Does what an event does to the banks, and puts its record at a place; the place after it.
+// Where an event leads: the place after its record, and whether the session is armed.
+pub struct Took {
+    pub at: usize,
+    pub armed: bool,
+}
+
+// Does what an event does to the banks, and puts its record at a place.
 pub fn take_event(
     chip: Chip,
     map: &[u8],
     active: &mut [u8],
     buffer: &mut [u8],
     settings: Settings,
+    armed: bool,
     event: Event,
     records: &mut [u8],
     at: usize,
-) -> usize
+) -> Took
     requires { ⌜ Taking chip (now map) (banks (now active) (now buffer)) settings event (now records) at ⌝ }
-    ensures { λ r. ⌜ Taken chip (now (map .entry)) (banks (now (active .entry)) (now (buffer .entry))) settings event (now (records .entry)) at (banks (now (active .exit)) (now (buffer .exit))) (now (records .exit)) r ⌝ }
+    ensures { λ r. ⌜ Taken chip (now (map .entry)) armed (banks (now (active .entry)) (now (buffer .entry))) settings event (now (records .entry)) at (banks (now (active .exit)) (now (buffer .exit))) (now (records .exit)) r ⌝ }
 {
     match event {
-        Event::Nothing => at,
+        Event::Nothing => Took {
+            at: at,
+            armed: armed,
+        },
         Event::Whole {
             read,
             address,
@@ -130,19 +143,37 @@ pub fn take_event(
             if read {
                 let due = registers::due_byte(chip, map, active, buffer, settings, address);
                 put_read(records, at, address, due, byte);
-                return at + RECORD;
+                return Took {
+                    at: at + RECORD,
+                    armed: armed,
+                };
             }
             let written = writing::write(chip, map, active, buffer, settings, address, byte);
             put_write(records, at, address, byte, written);
-            at + RECORD
+            let armed = armed_on(chip, map, armed, written.effect);
+            Took {
+                at: at + RECORD,
+                armed: armed,
+            }
         }
         Event::Aborted {
             address,
             bits,
             data,
         } => {
+            end_frame(chip, map, active, buffer, armed);
             put_abort(records, at, address, bits, data);
-            at + RECORD
+            Took {
+                at: at + RECORD,
+                armed: false,
+            }
+        }
+        Event::Ended => {
+            end_frame(chip, map, active, buffer, armed);
+            Took {
+                at: at,
+                armed: false,
+            }
         }
     }
 }

@@ -83,7 +83,7 @@ module _ (c : Chip) (m : List ℕ) (top : mapNumber c m ≡ 0 → topFits c m �
       (λ u. rw (top (eqb-true (mapNumber c m) 0 t)) (omega arith)))
 
   -- where the room suffices, neither is 6
-  pub read-number-most : (w : World) (xs : List ℕ) (room : ℕ) → recordSize * recordCount c (w .session) xs ≤ room → readNumber c m w xs room ≤ 5
+  pub read-number-most : (w : World) (xs : List ℕ) (room : ℕ) → recordSize * recordCount c (w .session .port) xs ≤ room → readNumber c m w xs room ≤ 5
   unfolding readNumber
   read-number-most w xs room enough =
       bounded (soundSession c (w .session)) (omega arith)
@@ -91,7 +91,7 @@ module _ (c : Chip) (m : List ℕ) (top : mapNumber c m ≡ 0 → topFits c m �
       (λ t. bounded (banksFit m (w .banks)) (omega arith)
       (λ u. rw (top (eqb-true (mapNumber c m) 0 t))
       (bounded (leb (length xs) 65536 && samplesGood xs) (omega arith)
-      (λ v. rw (le-leb (recordSize * recordCount c (w .session) xs) room enough) (omega arith))))))
+      (λ v. rw (le-leb (recordSize * recordCount c (w .session .port) xs) room enough) (omega arith))))))
 
 -- what number 0 says: each test of the reader holds
 pub record ReadTests (c : Chip) (m : List ℕ) (w : World) (xs : List ℕ) (room : ℕ) : Type 0 where
@@ -100,7 +100,7 @@ pub record ReadTests (c : Chip) (m : List ℕ) (w : World) (xs : List ℕ) (room
   pub fits : banksFit m (w .banks) ≡ true
   pub top : topFits c m ≡ true
   pub samples : (leb (length xs) 65536 && samplesGood xs) ≡ true
-  pub enough : leb (recordSize * recordCount c (w .session) xs) room ≡ true
+  pub enough : leb (recordSize * recordCount c (w .session .port) xs) room ≡ true
 
 pub read-tests : (c : Chip) (m : List ℕ) (w : World) (xs : List ℕ) (room : ℕ) → readNumber c m w xs room ≡ 0 → ReadTests c m w xs room
 unfolding readNumber
@@ -110,7 +110,7 @@ read-tests c m w xs room e =
     let four = passed (banksFit m (w .banks)) 4 _ (λ q. omega arith) (two .1) in
     let twelve = passed (topFits c m) 12 _ (λ q. omega arith) (four .1) in
     let five = passed (leb (length xs) 65536 && samplesGood xs) 5 _ (λ q. omega arith) (twelve .1) in
-    let six = passed (leb (recordSize * recordCount c (w .session) xs) room) 6 _ (λ q. omega arith) (five .1) in
+    let six = passed (leb (recordSize * recordCount c (w .session .port) xs) room) 6 _ (λ q. omega arith) (five .1) in
     record { sound = one .0; good-map = two .0; fits = four .0; top = twelve .0; samples = five .0; enough = six .0 }
 
 module _ (c : Chip) (m : List ℕ) (b : Banks) (n : ℕ) (given : n ≡ mapNumber c m) where
@@ -145,7 +145,7 @@ module _ (c : Chip) (m : List ℕ) (w : World) (xs : List ℕ) (room : ℕ) wher
     module _ (fits : openNumber c m (w .banks) ≡ 0) where
       -- only the samples and the room are left to test
       samples-next : (n : ℕ)
-          → n ≡ unless (leb (length xs) 65536 && samplesGood xs) 5 (unless (leb (recordSize * recordCount c (w .session) xs) room) 6 0)
+          → n ≡ unless (leb (length xs) 65536 && samplesGood xs) 5 (unless (leb (recordSize * recordCount c (w .session .port) xs) room) 6 0)
           → n ≡ readNumber c m w xs room
       unfolding readNumber
       samples-next n e =
@@ -164,12 +164,12 @@ module _ (c : Chip) (m : List ℕ) (w : World) (xs : List ℕ) (room : ℕ) wher
             samples-next 5 (no _ t refl)
 
         -- only the room is left to test
-        room-next : good ≡ true → (n : ℕ) → n ≡ unless (leb (recordSize * recordCount c (w .session) xs) room) 6 0 → n ≡ readNumber c m w xs room
+        room-next : good ≡ true → (n : ℕ) → n ≡ unless (leb (recordSize * recordCount c (w .session .port) xs) room) 6 0 → n ≡ readNumber c m w xs room
         room-next e n q =
             let t : (leb (length xs) 65536 && samplesGood xs) ≡ true = rw (le-leb (length xs) 65536 few) (sym looked ∙ e) in
             samples-next n (yes _ t q)
 
-        module _ (all-good : good ≡ true) (enough : Bool) (counted : enough ≡ leb (recordSize * recordCount c (w .session) xs) room) where
+        module _ (all-good : good ≡ true) (enough : Bool) (counted : enough ≡ leb (recordSize * recordCount c (w .session .port) xs) room) where
           pub room-found : enough ≡ true → 0 ≡ readNumber c m w xs room
           room-found e = room-next all-good 0 (yes _ (sym counted ∙ e) refl)
 

@@ -38,5 +38,5 @@ readNumber c m w samples room =
     (unless (banksFit m (w .banks)) 4
     (unless (topFits c m) 12
     (unless (leb (length samples) 65536 && samplesGood samples) 5
-    (unless (leb (recordSize * recordCount c (w .session) samples) room) 6
+    (unless (leb (recordSize * recordCount c (w .session .port) samples) room) 6
     0)))))

@@ -29,7 +29,7 @@ pub fn samples_good(samples: &[u8]) -> bool
 // How many records the samples give: a pass over them with nothing to put, no map and no banks.
 fn count_records(chip: Chip, session: Session, samples: &[u8]) -> usize
     requires { ⌜ (soundSession chip session ≡ true) × (length (now samples) ≤ 65536) ⌝ }
-    ensures { λ r. ⌜ r ≡ recordCount chip session (now (samples .entry)) ⌝ }
+    ensures { λ r. ⌜ r ≡ recordCount chip (session .port) (now (samples .entry)) ⌝ }
 {
     let map = [0u8; 1];
     let mut active = [0u8; 1];
@@ -51,7 +51,7 @@ fn count_records(chip: Chip, session: Session, samples: &[u8]) -> usize
 // Whether the records of the samples have room. They are counted only where the room may not suffice.
 pub fn room_suffices(chip: Chip, session: Session, samples: &[u8], room: usize) -> bool
     requires { ⌜ (soundSession chip session ≡ true) × (length (now samples) ≤ 65536) ⌝ }
-    ensures { λ r. ⌜ r ≡ leb (recordSize * recordCount chip session (now (samples .entry))) room ⌝ }
+    ensures { λ r. ⌜ r ≡ leb (recordSize * recordCount chip (session .port) (now (samples .entry))) room ⌝ }
 {
     if RECORD * ((samples.len() + 2) / 3) <= room {
         return true;

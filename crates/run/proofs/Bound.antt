@@ -13,12 +13,12 @@ use Rattle.chip.specs.declared.Chip.{Chip}
 use Rattle.settings.specs.declared.Settings.{Settings}
 use Rattle.session.specs.declared.Phase.{Phase}
 use Rattle.session.specs.declared.Phase.the-variants.{Rest, Instruction, Data}
-use Rattle.session.specs.declared.Session.{Session}
+use Rattle.session.specs.declared.Port.{Port}
 use Rattle.session.specs.declared.Event.{Event}
-use Rattle.session.specs.declared.Event.the-variants.{Nothing, Whole, Aborted}
+use Rattle.session.specs.declared.Event.the-variants.{Nothing, Whole, Aborted, Ended}
 use Rattle.session.specs.State.{resting, starting, withLevels, isData, isCounted, mayStall}
 use Rattle.session.specs.Step.{stepOf, csbOf, sclkOf, usedOn, runEnds, withBit, withDataBit, afterByte, settingsOnByte, valueWith, dataLine}
-use Rattle.session.specs.Event.{eventOf, bitEvent, abortEvent}
+use Rattle.session.specs.Event.{eventOf, bitEvent, endEvent}
 use Rattle.records.specs.Records.{recordsIn}
 use Rattle.run.specs.Reading.{recordCount}
 
@@ -26,12 +26,13 @@ at-most-one : (e : Event) → recordsIn e ≤ 1
 at-most-one Nothing = omega arith
 at-most-one (Whole r a v) = omega arith
 at-most-one (Aborted a b d) = omega arith
+at-most-one Ended = omega arith
 
 -- how many samples of the three that a record takes a session has behind it, at most, by CSB, SCLK and whether no bit is taken
 abbrev behindBy : Bool → Bool → Bool → ℕ
 behindBy csb sclk none = cond none (cond csb 0 (cond sclk 0 1)) 2
 
-unfoldable behind : Session → ℕ
+unfoldable behind : Port → ℕ
 behind s = behindBy (s .csb) (s .sclk) (eqb (s .bits) 0)
 
 two : (c k z : Bool) → behindBy c k z ≤ 2
@@ -40,7 +41,7 @@ two true k true = omega arith
 two false true true = omega arith
 two false false true = omega arith
 
-behind-le : (s : Session) → behind s ≤ 2
+behind-le : (s : Port) → behind s ≤ 2
 unfolding behind
 behind-le s = two (s .csb) (s .sclk) (eqb (s .bits) 0)
 
@@ -50,14 +51,14 @@ open-low true = omega arith
 open-low false = omega arith
 
 -- after a whole byte nothing is behind
-after-none : (c : Chip) (s : Session) (t : Settings) → behind (afterByte c s t) ≡ 0
+after-none : (c : Chip) (s : Port) (t : Settings) → behind (afterByte c s t) ≡ 0
 unfolding behind
 after-none c s t =
-    each (λ (u : Session). behind u ≡ 0) (usedOn c s .single) (λ e. refl)
-    (λ e. each (λ (u : Session). behind u ≡ 0) (runEnds c s) (λ e. refl) (λ e. refl))
+    each (λ (u : Port). behind u ≡ 0) (usedOn c s .single) (λ e. refl)
+    (λ e. each (λ (u : Port). behind u ≡ 0) (runEnds c s) (λ e. refl) (λ e. refl))
 
 -- a bit of data, by whether the byte goes on
-data-bit : (c : Chip) (s : Session) (b go : Bool) (e : Event) → ltb (s .bits) 7 ≡ go → recordsIn e ≤ 1
+data-bit : (c : Chip) (s : Port) (b go : Bool) (e : Event) → ltb (s .bits) 7 ≡ go → recordsIn e ≤ 1
     → 3 * recordsIn (cond go Nothing e) + behind (withDataBit c s b) ≤ behindBy false false (eqb (s .bits) 0) + 1
 unfolding withDataBit
 data-bit c s b true e h r = omega (arith, behind-le (withDataBit c s b), open-low (eqb (s .bits) 0))
@@ -66,15 +67,15 @@ data-bit c s b false e h r =
     rw (n, h) (omega (arith, after-none c s (settingsOnByte c s (valueWith s b))))
 
 -- a bit, by the phase
-any-bit : (c : Chip) (p : Phase) (s : Session) (x : ℕ) (e : Event) → recordsIn e ≤ 1 → behind (withBit c p s x) ≤ 2
+any-bit : (c : Chip) (p : Phase) (s : Port) (x : ℕ) (e : Event) → recordsIn e ≤ 1 → behind (withBit c p s x) ≤ 2
     → 3 * recordsIn (cond (isData p) (cond (ltb (s .bits) 7) Nothing e) Nothing) + behind (withBit c p s x) ≤ behindBy false false (eqb (s .bits) 0) + 1
 any-bit c Rest s x e r b = omega (arith, open-low (eqb (s .bits) 0))
 any-bit c Instruction s x e r b = omega (arith, open-low (eqb (s .bits) 0))
 any-bit c Data s x e r b = data-bit c s (dataLine c s x) (ltb (s .bits) 7) e refl r
 
--- CSB rises: a piece breaks off, or nothing was taken
-rise-few : (s : Session) (x : ℕ) (z o : Bool) (e : Event) → eqb (s .bits) 0 ≡ z → csbOf x ≡ true → recordsIn e ≤ 1
-    → 3 * recordsIn (cond z Nothing e) + behind (cond (not (o && z)) (resting (sclkOf x) (s .settings)) (withLevels s x)) ≤ behindBy false (s .sclk) z + 1
+-- CSB rises: a piece breaks off, nothing was taken, or a run stalls
+rise-few : (s : Port) (x : ℕ) (z o : Bool) (e : Event) → eqb (s .bits) 0 ≡ z → csbOf x ≡ true → recordsIn e ≤ 1
+    → 3 * recordsIn (cond (not (o && z)) (cond z Ended e) Nothing) + behind (cond (not (o && z)) (resting (sclkOf x) (s .settings)) (withLevels s x)) ≤ behindBy false (s .sclk) z + 1
 unfolding behind
 rise-few s x true true e h g r = rw (h, g) (omega arith)
 rise-few s x true false e h g r = omega arith
@@ -99,14 +100,14 @@ level-few false true k true = omega arith
 level-few false true k false = omega arith
 
 -- CSB falls: an instruction starts, or a run resumes
-fall-few : (s : Session) (x : ℕ) (o : Bool) → csbOf x ≡ false → 3 * 0 + behind (cond o (starting (sclkOf x) (s .settings)) (withLevels s x)) ≤ behindBy true (s .sclk) (eqb (s .bits) 0) + 1
+fall-few : (s : Port) (x : ℕ) (o : Bool) → csbOf x ≡ false → 3 * 0 + behind (cond o (starting (sclkOf x) (s .settings)) (withLevels s x)) ≤ behindBy true (s .sclk) (eqb (s .bits) 0) + 1
 unfolding behind
 fall-few s x true g = omega (arith, low-few (sclkOf x) (eqb (s .bits) 0))
 fall-few s x false g = rw g (resumed (sclkOf x) (eqb (s .bits) 0))
 
 -- One sample moves at most one of three: by the levels of CSB and SCLK, before and now.
-three : (c : Chip) (s : Session) (x : ℕ) → 3 * recordsIn (eventOf c s x) + behind (stepOf c s x) ≤ behind s + 1
-unfolding eventOf stepOf behind abortEvent bitEvent
+three : (c : Chip) (s : Port) (x : ℕ) → 3 * recordsIn (eventOf c s x) + behind (stepOf c s x) ≤ behind s + 1
+unfolding eventOf stepOf behind endEvent bitEvent
 three c s x = at (s .csb) (csbOf x) (s .sclk) (sclkOf x) refl refl refl refl
   where
     at : (b d k l : Bool) → s .csb ≡ b → csbOf x ≡ d → s .sclk ≡ k → sclkOf x ≡ l
@@ -119,7 +120,7 @@ three c s x = at (s .csb) (csbOf x) (s .sclk) (sclkOf x) refl refl refl refl
     at false false true l ec eb ek el = rw (ec, eb, ek) (level-few false (eqb (s .bits) 0) true (sclkOf x))
     at false false false false ec eb ek el = rw (ec, eb, ek, el) (level-few false (eqb (s .bits) 0) false false)
     at false false false true ec eb ek el =
-        let t : Session = record {
+        let t : Port = record {
           csb = false;
           sclk = false;
           phase = s .phase;
@@ -133,15 +134,15 @@ three c s x = at (s .csb) (csbOf x) (s .sclk) (sclkOf x) refl refl refl refl
         } in
         rw (ec, eb, ek, el) (any-bit c (s .phase) t x (Whole (s .read) (s .address) (valueWith s (dataLine c s x))) (omega arith) (behind-le (withBit c (s .phase) t x)))
 
-count-behind : (c : Chip) (s : Session) (xs : List ℕ) → 3 * recordCount c s xs ≤ length xs + behind s
+count-behind : (c : Chip) (s : Port) (xs : List ℕ) → 3 * recordCount c s xs ≤ length xs + behind s
 unfolding recordCount
 count-behind c s [] = omega arith
 count-behind c s (x ∷ xs) = omega (arith, three c s x, count-behind c (stepOf c s x) xs)
 
 -- Whatever the session, a record takes three samples, but for the first.
-pub records-bound : (c : Chip) (s : Session) (xs : List ℕ) → 3 * recordCount c s xs ≤ length xs + 2
+pub records-bound : (c : Chip) (s : Port) (xs : List ℕ) → 3 * recordCount c s xs ≤ length xs + 2
 records-bound c s xs = omega (arith, count-behind c s xs, behind-le s)
 
 -- 4,096 samples never give more than 1,366 records
-pub piece-bound : (c : Chip) (s : Session) (xs : List ℕ) → length xs ≤ 4096 → recordCount c s xs ≤ 1366
+pub piece-bound : (c : Chip) (s : Port) (xs : List ℕ) → length xs ≤ 4096 → recordCount c s xs ≤ 1366
 piece-bound c s xs h = omega (arith, records-bound c s xs)

@@ -10,9 +10,9 @@ use lib.ListN.{length, getD, drop, drop-of-length-le}
 use lib.Seq.{drop-cons}
 use Rattle.sizes.specs.Sizes.{recordSize}
 use Rattle.chip.specs.declared.Chip.{Chip}
-use Rattle.session.specs.declared.Session.{Session}
+use Rattle.session.specs.declared.Port.{Port}
 use Rattle.session.specs.declared.Event.{Event}
-use Rattle.session.specs.State.{soundSession}
+use Rattle.session.specs.State.{soundPort}
 use Rattle.session.specs.Step.{stepOf}
 use Rattle.session.specs.Event.{eventOf}
 use Rattle.session.proofs.Laws.{sound-step}
@@ -22,15 +22,15 @@ use Rattle.run.specs.Reading.{recordCount}
 use Rattle.run.proofs.Bound.{records-bound}
 
 -- i samples are passed over, and the size of their records counted: with that of what is left it is the whole
-pub record Counting (c : Chip) (xs : List ℕ) (s₀ s : Session) (size i : ℕ) : Type 0 where
+pub record Counting (c : Chip) (xs : List ℕ) (s₀ s : Port) (size i : ℕ) : Type 0 where
   pub within : i ≤ length xs
-  pub sound : soundSession c s ≡ true
+  pub sound : soundPort c s ≡ true
   pub rest : size + recordSize * recordCount c s (drop i xs) ≡ recordSize * recordCount c s₀ xs
 
-pub counting-begun : (c : Chip) (xs : List ℕ) (s : Session) → soundSession c s ≡ true → Counting c xs s s 0 0
+pub counting-begun : (c : Chip) (xs : List ℕ) (s : Port) → soundPort c s ≡ true → Counting c xs s s 0 0
 counting-begun c xs s f = record { within = omega arith; sound = f; rest = omega arith }
 
-counted : {c : Chip} {xs : List ℕ} {s₀ s : Session} {size i : ℕ} → i < length xs → Counting c xs s₀ s size i
+counted : {c : Chip} {xs : List ℕ} {s₀ s : Port} {size i : ℕ} → i < length xs → Counting c xs s₀ s size i
     → Counting c xs s₀ (stepOf c s (getD xs i 0)) (size + recordSize * recordsIn (eventOf c s (getD xs i 0))) (i + 1)
 unfolding recordCount
 counted {c} {xs} {s₀} {s} {size} {i} h k = record {
@@ -39,19 +39,19 @@ counted {c} {xs} {s₀} {s} {size} {i} h k = record {
   rest = rw add-one (omega (arith, rw (drop-cons xs i 0) at (k .rest)));
 }
 
-still-counting : {c : Chip} {xs : List ℕ} {s₀ s t : Session} {size i j : ℕ} → Counting c xs s₀ s size i → Quiet c xs s i t j → Counting c xs s₀ t size j
+still-counting : {c : Chip} {xs : List ℕ} {s₀ s t : Port} {size i j : ℕ} → Counting c xs s₀ s size i → Quiet c xs s i t j → Counting c xs s₀ t size j
 still-counting k still = k
 still-counting {size = size} k (more q h e) = rw (e, add-zero size) at (counted h (still-counting k q))
 
-pub counted-next : {c : Chip} {xs : List ℕ} {s₀ s t : Session} {size i j : ℕ} {e : Event} → Counting c xs s₀ s size i → Next c xs s i e t j
+pub counted-next : {c : Chip} {xs : List ℕ} {s₀ s t : Port} {size i j : ℕ} {e : Event} → Counting c xs s₀ s size i → Next c xs s i e t j
     → Counting c xs s₀ t (size + recordSize * recordsIn e) j
 counted-next {size = size} k (none q) = rw (add-zero size) (still-counting k q)
 counted-next k (one q h) = counted h (still-counting k q)
 
 -- the size is a number that fits
-pub size-fits : {c : Chip} {xs : List ℕ} {s₀ s : Session} {size i : ℕ} → length xs ≤ 65536 → Counting c xs s₀ s size i → size < 2 ^ 64
+pub size-fits : {c : Chip} {xs : List ℕ} {s₀ s : Port} {size i : ℕ} → length xs ≤ 65536 → Counting c xs s₀ s size i → size < 2 ^ 64
 size-fits {c} {xs} {s₀} h k = omega (arith, records-bound c s₀ xs, k .rest)
 
-pub counting-ended : {c : Chip} {xs : List ℕ} {s₀ s : Session} {size i : ℕ} → length xs ≤ i → Counting c xs s₀ s size i → size ≡ recordSize * recordCount c s₀ xs
+pub counting-ended : {c : Chip} {xs : List ℕ} {s₀ s : Port} {size i : ℕ} → length xs ≤ i → Counting c xs s₀ s size i → size ≡ recordSize * recordCount c s₀ xs
 unfolding recordCount
 counting-ended {c} {xs} {s₀} {s} {size} {i} h k = sym (add-zero size) ∙ (rw (drop-of-length-le xs h) at (k .rest))

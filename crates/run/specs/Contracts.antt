@@ -12,6 +12,7 @@ use Rattle.session.specs.declared.Event.{Event}
 use Rattle.session.specs.State.{soundSession}
 use Rattle.registers.specs.Banks.{Banks, Mapped}
 use Rattle.records.specs.Records.{recordsIn}
+use Rattle.records.specs.declared.Took.{Took}
 use Rattle.records.specs.Contracts.{Taking, Taken}
 use Rattle.run.specs.Reading.{World, runOf, recordsOf, recordCount}
 
@@ -20,9 +21,9 @@ pub record Passing (c : Chip) (put : Bool) (m : List ℕ) (b : Banks) (t : Setti
   pub fits : at + recordSize * recordsIn e < 2 ^ 64
   pub taking : put ≡ true → Taking c m b t e old at
 
-pub record Past (c : Chip) (put : Bool) (m : List ℕ) (b : Banks) (t : Settings) (e : Event) (old : List ℕ) (at : ℕ) (after : Banks) (new : List ℕ) (next : ℕ) : Type 0 where
-  pub next-place : next ≡ at + recordSize * recordsIn e
-  pub taken : put ≡ true → Taken c m b t e old at after new next
+pub record Past (c : Chip) (put : Bool) (m : List ℕ) (k : Bool) (b : Banks) (t : Settings) (e : Event) (old : List ℕ) (at : ℕ) (after : Banks) (new : List ℕ) (took : Took) : Type 0 where
+  pub next-place : took .at ≡ at + recordSize * recordsIn e
+  pub taken : put ≡ true → Taken c m k b t e old at after new took
 
 -- before samples are read: a sound session; and, where their records are put, what a good map and enough room give
 pub record Ready (c : Chip) (put : Bool) (m : List ℕ) (w : World) (samples old : List ℕ) : Type 0 where
@@ -39,5 +40,5 @@ pub record Done (c : Chip) (m : List ℕ) (w : World) (samples old : List ℕ) (
 
 -- after them, put or not: the size of a record for each
 pub record Ran (c : Chip) (put : Bool) (m : List ℕ) (w : World) (samples old : List ℕ) (after : World) (size : ℕ) (new : List ℕ) : Type 0 where
-  pub record-size-each : size ≡ recordSize * recordCount c (w .session) samples
+  pub record-size-each : size ≡ recordSize * recordCount c (w .session .port) samples
   pub done : put ≡ true → Done c m w samples old after size new

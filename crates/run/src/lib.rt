@@ -4,6 +4,7 @@ ghost use Rattle.registers.specs.Banks.{banks};
 ghost use Rattle.run.specs.Reading.{world};
 ghost use Rattle.run.specs.Contracts.{Passing, Past, Ready, Ran};
 use chip::Chip;
+use records::Took;
 use records::records_in;
 use records::take_event;
 use session::Event;
@@ -18,7 +19,7 @@ pub struct Passed {
     pub size: usize,
 }
 
-// Takes an event, or only counts its record where none is put; the place after it.
+// Takes an event, or only counts its record where none is put.
 fn pass_event(
     chip: Chip,
     put: bool,
@@ -26,17 +27,31 @@ fn pass_event(
     active: &mut [u8],
     buffer: &mut [u8],
     settings: Settings,
+    armed: bool,
     event: Event,
     records: &mut [u8],
     at: usize,
-) -> usize
+) -> Took
     requires { ⌜ Passing chip put (now map) (banks (now active) (now buffer)) settings event (now records) at ⌝ }
-    ensures { λ r. ⌜ Past chip put (now (map .entry)) (banks (now (active .entry)) (now (buffer .entry))) settings event (now (records .entry)) at (banks (now (active .exit)) (now (buffer .exit))) (now (records .exit)) r ⌝ }
+    ensures { λ r. ⌜ Past chip put (now (map .entry)) armed (banks (now (active .entry)) (now (buffer .entry))) settings event (now (records .entry)) at (banks (now (active .exit)) (now (buffer .exit))) (now (records .exit)) r ⌝ }
 {
     if put {
-        return take_event(chip, map, active, buffer, settings, event, records, at);
+        return take_event(
+            chip,
+            map,
+            active,
+            buffer,
+            settings,
+            armed,
+            event,
+            records,
+            at,
+        );
     }
-    at + RECORD * records_in(event)
+    Took {
+        at: at + RECORD * records_in(event),
+        armed: armed,
+    }
 }
 
 // Reads samples; or only counts their records where none is put. This is the one hot loop: what it calls has no other caller,
@@ -54,19 +69,37 @@ pub fn run_samples(
     requires { ⌜ Ready chip put (now map) (world session (now active) (now buffer)) (now samples) (now records) ⌝ }
     ensures { λ r. ⌜ Ran chip put (now (map .entry)) (world session (now (active .entry)) (now (buffer .entry))) (now (samples .entry)) (now (records .entry)) (world (r .session) (now (active .exit)) (now (buffer .exit))) (r .size) (now (records .exit)) ⌝ }
 {
-    let mut s = session;
+    let mut port = session.port;
+    let mut armed = session.armed;
     let mut at: usize = 0;
     let mut i: usize = 0;
     while i < samples.len() {
-        let next = next_event(chip, s, samples, i);
+        let next = next_event(chip, port, samples, i);
         let event = next.event;
-        let settings = s.settings;
-        at = pass_event(chip, put, map, active, buffer, settings, event, records, at);
-        s = next.session;
+        let settings = port.settings;
+        let took = pass_event(
+            chip,
+            put,
+            map,
+            active,
+            buffer,
+            settings,
+            armed,
+            event,
+            records,
+            at,
+        );
+        armed = took.armed;
+        at = took.at;
+        port = next.port;
         i = next.at;
     }
+    let session = Session {
+        port: port,
+        armed: armed,
+    };
     Passed {
-        session: s,
+        session: session,
         size: at,
     }
 }

@@ -17,12 +17,12 @@ use Rattle.settings.specs.Settings.{inUseOf, nextAddress}
 use Rattle.settings.proofs.Laws.{next-lt}
 use Rattle.session.specs.declared.Phase.{Phase}
 use Rattle.session.specs.declared.Phase.the-variants.{Rest, Instruction, Data}
-use Rattle.session.specs.declared.Session.{Session}
-use Rattle.session.specs.State.{noneInUse, resting, instructing, inData, passing, isCounted, mayStall, lengthGood, zeroTests, soundTests, soundSession}
+use Rattle.session.specs.declared.Port.{Port}
+use Rattle.session.specs.State.{noneInUse, resting, instructing, inData, passing, isCounted, mayStall, lengthGood, zeroTests, soundTests, soundPort}
 use Rattle.session.specs.Step.{csbOf, sclkOf, sdioOf, takesBit, valueWith, entered, withInstructionBit, usedOn, runEnds, settingsOnByte, afterByte, withDataBit, dataLine, stepOf}
 
 -- before a data byte of a counted run, with the select high
-abbrev pub stalled : Bool → ℕ → Bool → ℕ → Settings → InUse → Session
+abbrev pub stalled : Bool → ℕ → Bool → ℕ → Settings → InUse → Port
 stalled sclk address read left t u = record {
   csb = true;
   sclk = sclk;
@@ -36,7 +36,7 @@ stalled sclk address read left t u = record {
   used = u;
 }
 
-pub data Form (c : Chip) : Session → Type 0 where
+pub data Form (c : Chip) : Port → Type 0 where
   rests : (sclk : Bool) (t : Settings) → Form c (resting sclk t)
   instructs : (sclk : Bool) (bits value : ℕ) (t : Settings) (u : InUse)
       → bits < 16 → value < 2 ^ bits → Form c (instructing sclk bits value t u)
@@ -47,12 +47,12 @@ pub data Form (c : Chip) : Session → Type 0 where
   passes : (sclk : Bool) (t : Settings) → isNewer c ≡ false → Form c (passing sclk t)
 
 -- the tests of a sound session in its phase
-tests : (c : Chip) (s : Session) → soundSession c s ≡ true → (p : Phase) → s .phase ≡ p → AllTrue (soundTests c p s)
-unfolding soundSession
+tests : (c : Chip) (s : Port) → soundPort c s ≡ true → (p : Phase) → s .phase ≡ p → AllTrue (soundTests c p s)
+unfolding soundPort
 tests c s h p e = every-true (soundTests c p s) (subst (λ (q : Phase). every (soundTests c q s) ≡ true) e h)
 
-pub form-sound : {c : Chip} {s : Session} → Form c s → soundSession c s ≡ true
-unfolding soundSession every
+pub form-sound : {c : Chip} {s : Port} → Form c s → soundPort c s ≡ true
+unfolding soundPort every
 form-sound (rests k t) = refl
 form-sound (instructs k n v t u h g) = simp (le-leb n 15 (omega arith), lt-ltb v (2 ^ n) g)
 form-sound (has-data k n v a r l t u h g f d) = simp (le-leb n 7 (omega arith), lt-ltb v (2 ^ n) g, le-leb a 0x7FFF (omega arith), d)
@@ -60,7 +60,7 @@ form-sound (stalls k a r l t u f e d) = simp (le-leb a 0x7FFF (omega arith), e, 
 form-sound (passes k t e) = rw e refl
 
 -- where all but the levels, the phase and the settings is zero
-zeros : (s : Session) → AllTrue (zeroTests s) → {csb : Bool} {p : Phase} → s .csb ≡ csb → s .phase ≡ p
+zeros : (s : Port) → AllTrue (zeroTests s) → {csb : Bool} {p : Phase} → s .csb ≡ csb → s .phase ≡ p
     → s ≡ record { csb = csb; sclk = s .sclk; phase = p; bits = 0; value = 0; address = 0; read = false; left = 0; settings = s .settings; used = noneInUse }
 zeros s q b e =
     λ i. record {
@@ -82,10 +82,10 @@ zeros s q b e =
     }
 
 -- at rest all but SCLK and the settings is fixed
-pub rest-form : (c : Chip) (s : Session) → soundSession c s ≡ true → s .phase ≡ Rest → s .csb ≡ true → s ≡ resting (s .sclk) (s .settings)
+pub rest-form : (c : Chip) (s : Port) → soundPort c s ≡ true → s .phase ≡ Rest → s .csb ≡ true → s ≡ resting (s .sclk) (s .settings)
 rest-form c s h e b = zeros s (tests c s h Rest e .1) b e
 
-pub sound-form : (c : Chip) (s : Session) → soundSession c s ≡ true → Form c s
+pub sound-form : (c : Chip) (s : Port) → soundPort c s ≡ true → Form c s
 sound-form c s h = go (s .phase) refl
   where
     go : (p : Phase) → s .phase ≡ p → Form c s
@@ -171,7 +171,7 @@ form-entered (Older part top) v t u =
     (λ e. has-data true _ _ (v % 0x2000) _ _ _ _ (lit< tt) (lit< tt) (omega arith) (rw (length-bits (v / 0x2000 % 4) (omega arith)) e))
     (λ e. passes true t refl)
 
-form-instruction : (c : Chip) (s : Session) (b : Bool) → s .bits < 16 → s .value < 2 ^ s .bits → Form c (withInstructionBit c s b)
+form-instruction : (c : Chip) (s : Port) (b : Bool) → s .bits < 16 → s .value < 2 ^ s .bits → Form c (withInstructionBit c s b)
 unfolding withInstructionBit
 form-instruction c s b h g =
     each (Form c) (ltb (s .bits) 15)
@@ -200,7 +200,7 @@ next-top true a top h g = let d = eqb-false a top g in omega (arith, d)
 next-top false a top h g = let d = eqb-false a 0 g in omega (arith, d)
 
 -- data goes on
-length-next : (c : Chip) (s : Session) → lengthGood c (s .left) (s .address) ≡ true → runEnds c s ≡ false
+length-next : (c : Chip) (s : Port) → lengthGood c (s .left) (s .address) ≡ true → runEnds c s ≡ false
     → lengthGood c (leftAfter (s .left)) (nextAddress (usedOn c s .ascending) (s .address)) ≡ true
 length-next Newer s d e = let z = eqb-true (s .left) 0 d in rw z refl
 length-next (Older part top) s d e =
@@ -210,17 +210,17 @@ length-next (Older part top) s d e =
     (le-leb _ top (next-top (s .used .lsb) (s .address) top a (or-right (eqb (s .left) 1) _ e)))
 
 -- only an older chip's run ends
-older-ends : (c : Chip) (s : Session) → runEnds c s ≡ true → isNewer c ≡ false
+older-ends : (c : Chip) (s : Port) → runEnds c s ≡ true → isNewer c ≡ false
 older-ends Newer s e = absurd (false≢true e)
 older-ends (Older part top) s e = refl
 
-form-after : (c : Chip) (s : Session) (t : Settings) → lengthGood c (s .left) (s .address) ≡ true → Form c (afterByte c s t)
+form-after : (c : Chip) (s : Port) (t : Settings) → lengthGood c (s .left) (s .address) ≡ true → Form c (afterByte c s t)
 form-after c s t d =
     each (Form c) (usedOn c s .single) (λ e. instructs true _ _ _ _ (lit< tt) (lit< tt))
     (λ e. each (Form c) (runEnds c s) (λ f. passes true t (older-ends c s f))
     (λ f. has-data true _ _ _ _ _ _ _ (lit< tt) (lit< tt) (next-lt (usedOn c s .ascending) (s .address)) (length-next c s d f)))
 
-form-data : (c : Chip) (s : Session) (b : Bool) → s .bits < 8 → s .value < 2 ^ s .bits → s .address < 0x8000
+form-data : (c : Chip) (s : Port) (b : Bool) → s .bits < 8 → s .value < 2 ^ s .bits → s .address < 0x8000
     → lengthGood c (s .left) (s .address) ≡ true → Form c (withDataBit c s b)
 unfolding withDataBit
 form-data c s b h g f d =
@@ -234,7 +234,7 @@ some-left : (l : ℕ) → isCounted l ≡ true → eqb l 0 ≡ false
 some-left zero e = absurd (false≢true e)
 some-left (suc l) e = ne-eqb (suc l) 0 (λ (z : suc l ≡ 0). omega arith)
 
-pub form-step : {c : Chip} {s : Session} → Form c s → (x : ℕ) → Form c (stepOf c s x)
+pub form-step : {c : Chip} {s : Port} → Form c s → (x : ℕ) → Form c (stepOf c s x)
 unfolding stepOf
 form-step {c} (rests k t) x = by-csb (csbOf x) refl
   where

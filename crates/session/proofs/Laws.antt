@@ -6,7 +6,7 @@ use native.Mathlib.Omega.{arith}
 use native.Mathlib.Nat.{lt-of-lt-of-le}
 use lib.Dec.{lit<, leb}
 use lib.Pow.{pow-mono}
-use Rattle.bits.proofs.Cases.{each}
+use Rattle.bits.proofs.Cases.{each, and-left}
 use Rattle.bits.proofs.Laws.{shifted-lt}
 use Rattle.chip.specs.declared.Chip.{Chip}
 use Rattle.chip.specs.declared.Chip.the-variants.{Newer, Older}
@@ -14,22 +14,23 @@ use Rattle.settings.specs.declared.Settings.{Settings}
 use Rattle.settings.specs.declared.InUse.{InUse}
 use Rattle.session.specs.declared.Phase.{Phase}
 use Rattle.session.specs.declared.Phase.the-variants.{Rest, Instruction, Data}
+use Rattle.session.specs.declared.Port.{Port}
 use Rattle.session.specs.declared.Session.{Session}
-use Rattle.session.specs.State.{isData, soundSession, widthOf, Fit}
+use Rattle.session.specs.State.{isData, soundPort, soundSession, widthOf, Fit}
 use Rattle.session.specs.Step.{valueWith, entered, stepOf}
 use Rattle.session.proofs.Form.{Form, rests, instructs, has-data, stalls, passes, form-sound, sound-form, form-step}
 
-fit-form : {c : Chip} {s : Session} → Form c s → Fit s
+fit-form : {c : Chip} {s : Port} → Form c s → Fit s
 fit-form (rests k t) = record { unfinished = lit< tt; small = lit< tt; near = lit< tt }
 fit-form (instructs k n v t u h g) = record { unfinished = h; small = g; near = lit< tt }
 fit-form (has-data k n v a r l t u h g f d) = record { unfinished = h; small = g; near = f }
 fit-form (stalls k a r l t u f e d) = record { unfinished = lit< tt; small = lit< tt; near = f }
 fit-form (passes k t e) = record { unfinished = lit< tt; small = lit< tt; near = lit< tt }
 
-pub fit-sound : (c : Chip) (s : Session) → soundSession c s ≡ true → Fit s
+pub fit-sound : (c : Chip) (s : Port) → soundPort c s ≡ true → Fit s
 fit-sound c s h = fit-form (sound-form c s h)
 
-pub sound-step : (c : Chip) (s : Session) (x : ℕ) → soundSession c s ≡ true → soundSession c (stepOf c s x) ≡ true
+pub sound-step : (c : Chip) (s : Port) (x : ℕ) → soundPort c s ≡ true → soundPort c (stepOf c s x) ≡ true
 sound-step c s x h = form-sound (form-step (sound-form c s h) x)
 
 data-bits : (p : Phase) (n : ℕ) → isData p ≡ true → n < widthOf p → n < 8
@@ -38,7 +39,7 @@ data-bits Instruction n e h = absurd (false≢true e)
 data-bits Data n e h = h
 
 -- with one more bit, data is still the value of a byte
-pub byte-lt : (s : Session) (b : Bool) → Fit s → isData (s .phase) ≡ true → valueWith s b < 256
+pub byte-lt : (s : Port) (b : Bool) → Fit s → isData (s .phase) ≡ true → valueWith s b < 256
 byte-lt s b f e =
     let h = data-bits (s .phase) (s .bits) e (f .unfinished) in
     lt-of-lt-of-le (shifted-lt (s .used .lsb) (s .value) (s .bits) b (f .small))
@@ -51,11 +52,16 @@ few-bits Instruction n h = h
 few-bits Data n h = omega arith
 
 -- a fit session has room for one more bit
-pub room-for-bit : (s : Session) → Fit s → (s .bits < 16) × (s .value < 2 ^ s .bits)
+pub room-for-bit : (s : Port) → Fit s → (s .bits < 16) × (s .value < 2 ^ s .bits)
 room-for-bit s f = (few-bits (s .phase) (s .bits) (f .unfinished), f .small)
 
 -- a whole instruction changes no setting
 pub entered-settings : (c : Chip) (v : ℕ) (t : Settings) (u : InUse) → entered c v t u .settings ≡ t
 unfolding entered
 entered-settings Newer v t u = refl
-entered-settings (Older part top) v t u = each (λ (s : Session). s .settings ≡ t) (leb (v % 0x2000) top) (λ e. refl) (λ e. refl)
+entered-settings (Older part top) v t u = each (λ (s : Port). s .settings ≡ t) (leb (v % 0x2000) top) (λ e. refl) (λ e. refl)
+
+-- a sound session has a sound port
+pub port-sound : (c : Chip) (s : Session) → soundSession c s ≡ true → soundPort c (s .port) ≡ true
+unfolding soundSession
+port-sound c s h = and-left (soundPort c (s .port)) _ h

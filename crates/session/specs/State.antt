@@ -1,5 +1,5 @@
--- Document 01, "Registers and session": the session, and which are sound; document 02, Ask 1: what the older chips add. Every session that
--- a definition makes is made by one of the builders here.
+-- Document 01, "Registers and session": the session, which is a port and whether it is armed (document 02, Ask 4), and which are sound;
+-- document 02, Ask 1: what the older chips add. Every port that a definition makes is made by one of the builders here.
 use Prim.Native.Nat.{ℕ, _^_, _<_}
 use mathlib.Core.Bool.{Bool, true, false, not, _&&_, _||_}
 use mathlib.Core.List.{List, [], _∷_}
@@ -14,13 +14,14 @@ use Rattle.settings.specs.declared.InUse.{InUse}
 use Rattle.settings.specs.Settings.{inUseOf}
 use Rattle.session.specs.declared.Phase.{Phase}
 use Rattle.session.specs.declared.Phase.the-variants.{Rest, Instruction, Data}
+use Rattle.session.specs.declared.Port.{Port}
 use Rattle.session.specs.declared.Session.{Session}
 
 abbrev pub noneInUse : InUse
 noneInUse = record { lsb = false; ascending = false; sdo = false; single = false }
 
 -- the zeros of rest, with the last levels
-abbrev pub idle : Bool → Bool → Settings → Session
+abbrev pub idle : Bool → Bool → Settings → Port
 idle csb sclk t = record {
   csb = csb;
   sclk = sclk;
@@ -35,15 +36,15 @@ idle csb sclk t = record {
 }
 
 -- at rest: CSB is high
-abbrev pub resting : Bool → Settings → Session
+abbrev pub resting : Bool → Settings → Port
 resting sclk t = idle true sclk t
 
 -- Document 02, Ask 1: an older chip passes bits over, with the select low and the zeros of rest.
-abbrev pub passing : Bool → Settings → Session
+abbrev pub passing : Bool → Settings → Port
 passing sclk t = idle false sclk t
 
 -- in an instruction, with some of its bits taken
-abbrev pub instructing : Bool → ℕ → ℕ → Settings → InUse → Session
+abbrev pub instructing : Bool → ℕ → ℕ → Settings → InUse → Port
 instructing sclk bits value t u = record {
   csb = false;
   sclk = sclk;
@@ -58,11 +59,11 @@ instructing sclk bits value t u = record {
 }
 
 -- an instruction starts, and the settings in use are taken from the settings
-abbrev pub starting : Bool → Settings → Session
+abbrev pub starting : Bool → Settings → Port
 starting sclk t = instructing sclk 0 0 t (inUseOf t)
 
 -- in the data at an address, with some bits of a byte taken and so many bytes left of a run that is counted
-abbrev pub inData : Bool → ℕ → ℕ → ℕ → Bool → ℕ → Settings → InUse → Session
+abbrev pub inData : Bool → ℕ → ℕ → ℕ → Bool → ℕ → Settings → InUse → Port
 inData sclk bits value address read left t u = record {
   csb = false;
   sclk = sclk;
@@ -77,7 +78,7 @@ inData sclk bits value address read left t u = record {
 }
 
 -- only the last levels change
-abbrev pub withLevels : Session → ℕ → Session
+abbrev pub withLevels : Port → ℕ → Port
 withLevels s x = record {
   csb = bitAt x 0;
   sclk = bitAt x 1;
@@ -99,7 +100,7 @@ abbrev pub streams : ℕ
 streams = 4
 
 -- Unless streaming, the select may rise before any data byte of a run: in data, with no bits of a byte taken.
-abbrev pub mayStall : Session → Bool
+abbrev pub mayStall : Port → Bool
 mayStall s = isCounted (s .left) && eqb (s .bits) 0
 
 -- what data adds: on an older chip streaming or 1 to 3 bytes left, with an address up to the top; on a newer one nothing
@@ -108,7 +109,7 @@ lengthGood Newer left address = eqb left 0
 lengthGood (Older part top) left address = (isCounted left || eqb left streams) && leb address top
 
 -- the zeros of rest: bits, value, address, direction, bytes left and settings in use
-abbrev pub zeroTests : Session → List Bool
+abbrev pub zeroTests : Port → List Bool
 zeroTests s =
     eqb (s .bits) 0 ∷ eqb (s .value) 0 ∷ eqb (s .address) 0 ∷ not (s .read) ∷ eqb (s .left) 0
     ∷ not (s .used .lsb) ∷ not (s .used .ascending) ∷ not (s .used .sdo) ∷ not (s .used .single)
@@ -117,7 +118,7 @@ zeroTests s =
 -- Soundness, phase by phase. Rest holds exactly if the last CSB is high, but for an older chip's run: it passes over
 -- at rest with CSB low, and stalls in data with CSB high; an instruction has 0 to 15 bits, with
 -- address and direction zero; data has 0 to 7 bits; the value is below 2 to the number of bits.
-abbrev pub soundTests : Chip → Phase → Session → List Bool
+abbrev pub soundTests : Chip → Phase → Port → List Bool
 soundTests c Rest s = (s .csb || not (isNewer c)) ∷ zeroTests s
 soundTests c Instruction s =
     not (s .csb) ∷ leb (s .bits) 15 ∷ ltb (s .value) (2 ^ s .bits) ∷ eqb (s .address) 0 ∷ not (s .read) ∷ eqb (s .left) 0 ∷ []
@@ -126,8 +127,20 @@ soundTests c Data s =
     ∷ leb (s .bits) 7 ∷ ltb (s .value) (2 ^ s .bits) ∷ leb (s .address) 0x7FFF ∷ lengthGood c (s .left) (s .address)
     ∷ []
 
+unfoldable pub soundPort : Chip → Port → Bool
+soundPort c s = every (soundTests c (s .phase) s)
+
+abbrev pub isRest : Phase → Bool
+isRest Rest = true
+isRest Instruction = false
+isRest Data = false
+
+-- Document 02, Ask 4: a session is armed only inside a frame of a newer chip.
+abbrev pub mayArm : Chip → Port → Bool
+mayArm c p = isNewer c && not (isRest (p .phase))
+
 unfoldable pub soundSession : Chip → Session → Bool
-soundSession c s = every (soundTests c (s .phase) s)
+soundSession c s = soundPort c (s .port) && (not (s .armed) || mayArm c (s .port))
 
 abbrev pub isData : Phase → Bool
 isData Rest = false
@@ -140,8 +153,8 @@ widthOf Rest = 1
 widthOf Instruction = 16
 widthOf Data = 8
 
--- What the core asks of a session, and every sound one has: a piece that is not whole, its value, and an address of 15 bits.
-pub record Fit (s : Session) : Type 0 where
+-- What the core asks of a port, and every sound one has: a piece that is not whole, its value, and an address of 15 bits.
+pub record Fit (s : Port) : Type 0 where
   pub unfinished : s .bits < widthOf (s .phase)
   pub small : s .value < 2 ^ s .bits
   pub near : s .address < 0x8000

@@ -4,8 +4,9 @@ ghost use Rattle.session.specs.State.{isData, Fit};
 ghost use Rattle.session.specs.Event.{eventOf};
 use crate::Event;
 use crate::Phase;
-use crate::Session;
+use crate::Port;
 use crate::step::data_line;
+use crate::step::may_stall;
 use crate::step::takes_bit;
 use bits::bit_at;
 use bits::shift_in;
@@ -22,8 +23,8 @@ fn is_data(phase: Phase) -> bool
     }
 }
 
-impl Session {
-    // What the sample completes: the eighth bit of data makes a byte whole, and the rise of CSB breaks off what has bits.
+impl Port {
+    // What the sample completes: the eighth bit of data makes a byte whole, and the end of a frame breaks off what has bits.
     pub fn event(self, chip: Chip, sample: u8) -> Event
         requires { ⌜ Fit self ⌝ }
         ensures { λ r. ⌜ r ≡ eventOf chip self sample ⌝ }
@@ -44,8 +45,11 @@ impl Session {
             };
         }
         let rises = !self.csb & bit_at(sample, 0);
-        if !rises | (self.bits == 0) {
+        if !rises | may_stall(self.left, self.bits) {
             return Event::Nothing;
+        }
+        if self.bits == 0 {
+            return Event::Ended;
         }
         Event::Aborted {
             address: self.address,

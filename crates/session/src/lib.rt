@@ -1,5 +1,5 @@
-// The session of the serial control interface: what one sample of the lines makes of it, and what the sample completes.
-// No map and no registers: nothing here depends on them.
+// The session of the serial control interface. Its port is what the samples alone decide: what one sample makes of it, and what the
+// sample completes; no map and no registers come in. Whether it is armed goes by what was completed, and by the map.
 
 mod events;
 mod state;
@@ -20,7 +20,8 @@ pub enum Phase {
     Data,
 }
 
-pub struct Session {
+// What the samples alone decide.
+pub struct Port {
     // The last levels of CSB and SCLK.
     pub csb: bool,
     pub sclk: bool,
@@ -36,6 +37,12 @@ pub struct Session {
     pub left: u8,
 }
 
+pub struct Session {
+    pub port: Port,
+    // Whether the end of this frame moves the buffered registers: a whole byte of it went to one of them.
+    pub armed: bool,
+}
+
 // What a sample completes.
 pub enum Event {
     Nothing,
@@ -43,4 +50,6 @@ pub enum Event {
     Whole { read: bool, address: u16, byte: u8 },
     // An instruction or a byte that the rise of CSB broke off, after so many of its bits.
     Aborted { address: u16, bits: u8, data: bool },
+    // The end of a frame that breaks nothing off.
+    Ended,
 }

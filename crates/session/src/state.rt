@@ -1,16 +1,16 @@
-// The sessions that a sample leads to, phase by phase.
+// The ports that a sample leads to, phase by phase.
 ghost use mathlib.Core.Path.{_≡_};
 ghost use Rattle.session.specs.State.{idle, resting, passing, instructing, starting, inData};
 use crate::Phase;
-use crate::Session;
+use crate::Port;
 use settings::InUse;
 use settings::Settings;
 
 // The zeros of rest, with the last levels.
-fn idle(csb: bool, sclk: bool, settings: Settings) -> Session
+fn idle(csb: bool, sclk: bool, settings: Settings) -> Port
     ensures { λ r. ⌜ r ≡ idle csb sclk settings ⌝ }
 {
-    Session {
+    Port {
         csb: csb,
         sclk: sclk,
         phase: Phase::Rest,
@@ -30,30 +30,24 @@ fn idle(csb: bool, sclk: bool, settings: Settings) -> Session
 }
 
 // At rest: CSB is high.
-pub(crate) fn resting(sclk: bool, settings: Settings) -> Session
+pub(crate) fn resting(sclk: bool, settings: Settings) -> Port
     ensures { λ r. ⌜ r ≡ resting sclk settings ⌝ }
 {
     idle(true, sclk, settings)
 }
 
 // Passing bits over, with the select low.
-pub(crate) fn passing(sclk: bool, settings: Settings) -> Session
+pub(crate) fn passing(sclk: bool, settings: Settings) -> Port
     ensures { λ r. ⌜ r ≡ passing sclk settings ⌝ }
 {
     idle(false, sclk, settings)
 }
 
 // In an instruction, with some of its bits taken.
-pub(crate) fn instructing(
-    sclk: bool,
-    bits: u8,
-    value: u16,
-    settings: Settings,
-    used: InUse,
-) -> Session
+pub(crate) fn instructing(sclk: bool, bits: u8, value: u16, settings: Settings, used: InUse) -> Port
     ensures { λ r. ⌜ r ≡ instructing sclk bits value settings used ⌝ }
 {
-    Session {
+    Port {
         csb: false,
         sclk: sclk,
         phase: Phase::Instruction,
@@ -68,7 +62,7 @@ pub(crate) fn instructing(
 }
 
 // At the start of an instruction, which takes the settings as they stand.
-pub(crate) fn starting(sclk: bool, settings: Settings) -> Session
+pub(crate) fn starting(sclk: bool, settings: Settings) -> Port
     ensures { λ r. ⌜ r ≡ starting sclk settings ⌝ }
 {
     instructing(sclk, 0, 0, settings, settings.in_use())
@@ -84,10 +78,10 @@ pub(crate) fn in_data(
     left: u8,
     settings: Settings,
     used: InUse,
-) -> Session
+) -> Port
     ensures { λ r. ⌜ r ≡ inData sclk bits value address read left settings used ⌝ }
 {
-    Session {
+    Port {
         csb: false,
         sclk: sclk,
         phase: Phase::Data,

@@ -1,4 +1,4 @@
-// The next session after one sample.
+// The next port after one sample.
 ghost use mathlib.Core.Path.{_≡_};
 ghost use mathlib.Core.Bool.{cond, not, _&&_, _||_};
 ghost use Prim.Native.Nat.{_-_, _<_};
@@ -8,7 +8,7 @@ ghost use Rattle.session.specs.declared.Phase.the-variants.{Data};
 ghost use Rattle.session.specs.State.{isCounted, Fit};
 ghost use Rattle.session.specs.Step.{csbOf, sclkOf, sdioOf, sdoOf, entered, withInstructionBit, runsOut, afterByte, withDataBit, stepOf};
 use crate::Phase;
-use crate::Session;
+use crate::Port;
 use crate::state::in_data;
 use crate::state::instructing;
 use crate::state::passing;
@@ -63,8 +63,8 @@ pub fn may_stall(left: u8, bits: u8) -> bool
     is_counted(left) & (bits == 0)
 }
 
-// The session after a whole instruction.
-fn entered(chip: Chip, value: u16, settings: Settings, used: InUse) -> Session
+// The port after a whole instruction.
+fn entered(chip: Chip, value: u16, settings: Settings, used: InUse) -> Port
     ensures { λ r. ⌜ r ≡ entered chip value settings used ⌝ }
 {
     match chip {
@@ -111,9 +111,9 @@ fn left_after(left: u8) -> u8
     if is_counted(left) { left - 1 } else { left }
 }
 
-impl Session {
+impl Port {
     // With one more bit of an instruction.
-    fn with_instruction_bit(self, chip: Chip, bit: bool) -> Session
+    fn with_instruction_bit(self, chip: Chip, bit: bool) -> Port
         requires { ⌜ Fit self ⌝ }
         ensures { λ r. ⌜ r ≡ withInstructionBit chip self bit ⌝ }
     {
@@ -127,7 +127,7 @@ impl Session {
     }
 
     // After a whole byte, under the settings as they now stand: a new instruction, bits to pass over, or data at the next address.
-    fn after_byte(self, chip: Chip, settings: Settings) -> Session
+    fn after_byte(self, chip: Chip, settings: Settings) -> Port
         requires { ⌜ self .address < 0x8000 ⌝ }
         ensures { λ r. ⌜ r ≡ afterByte chip self settings ⌝ }
     {
@@ -153,7 +153,7 @@ impl Session {
     }
 
     // With one more bit of data.
-    fn with_data_bit(self, chip: Chip, bit: bool) -> Session
+    fn with_data_bit(self, chip: Chip, bit: bool) -> Port
         requires { ⌜ (Fit self) × (self .phase ≡ Data) ⌝ }
         ensures { λ r. ⌜ r ≡ withDataBit chip self bit ⌝ }
     {
@@ -176,8 +176,8 @@ impl Session {
         self.after_byte(chip, settings)
     }
 
-    // The next session. A bit at rest is passed over.
-    pub fn step(mut self, chip: Chip, sample: u8) -> Session
+    // The next port. A bit at rest is passed over.
+    pub fn step(mut self, chip: Chip, sample: u8) -> Port
         requires { ⌜ Fit self ⌝ }
         ensures { λ r. ⌜ r ≡ stepOf chip self sample ⌝ }
     {

@@ -53,27 +53,30 @@ bytes-are s = simp (flag-small, phase-small)
 pub session-back : (s : Session) → sessionOf (sessionBytes s) ≡ s
 unfolding sessionOf sessionBytes
 session-back s = λ i. record {
-  csb = flag-back (s .csb) i;
-  sclk = flag-back (s .sclk) i;
-  phase = phase-back (s .phase) i;
-  bits = s .bits;
-  value = word-back (s .value) i;
-  address = word-back (s .address) i;
-  read = flag-back (s .read) i;
-  settings = record {
-    lsb = flag-back (s .settings .lsb) i;
-    ascending = flag-back (s .settings .ascending) i;
-    sdo = flag-back (s .settings .sdo) i;
-    single = flag-back (s .settings .single) i;
-    readback = flag-back (s .settings .readback) i;
+  port = record {
+    csb = flag-back (s .port .csb) i;
+    sclk = flag-back (s .port .sclk) i;
+    phase = phase-back (s .port .phase) i;
+    bits = s .port .bits;
+    value = word-back (s .port .value) i;
+    address = word-back (s .port .address) i;
+    read = flag-back (s .port .read) i;
+    settings = record {
+      lsb = flag-back (s .port .settings .lsb) i;
+      ascending = flag-back (s .port .settings .ascending) i;
+      sdo = flag-back (s .port .settings .sdo) i;
+      single = flag-back (s .port .settings .single) i;
+      readback = flag-back (s .port .settings .readback) i;
+    };
+    used = record {
+      lsb = flag-back (s .port .used .lsb) i;
+      ascending = flag-back (s .port .used .ascending) i;
+      sdo = flag-back (s .port .used .sdo) i;
+      single = flag-back (s .port .used .single) i;
+    };
+    left = s .port .left;
   };
-  used = record {
-    lsb = flag-back (s .used .lsb) i;
-    ascending = flag-back (s .used .ascending) i;
-    sdo = flag-back (s .used .sdo) i;
-    single = flag-back (s .used .single) i;
-  };
-  left = s .left;
+  armed = flag-back (s .armed) i;
 }
 
 -- from a byte to its field and back
@@ -120,5 +123,5 @@ bytes-back b h small =
     ∷ bit-back (at 10) (g .1 .0) i ∷ bit-back (at 11) (g .1 .1 .0) i ∷ bit-back (at 12) (g .1 .1 .1 .0) i
     ∷ bit-back (at 13) (g .1 .1 .1 .1 .0) i ∷ bit-back (at 14) (g .1 .1 .1 .1 .1 .0) i
     ∷ bit-back (at 15) (u .0) i ∷ bit-back (at 16) (u .1 .0) i ∷ bit-back (at 17) (u .1 .1 .0) i ∷ bit-back (at 18) (u .1 .1 .1 .0) i
-    ∷ at 19 ∷ [])
+    ∷ at 19 ∷ bit-back (at 20) (u .1 .1 .1 .1 .0) i ∷ [])
     ∙ sym (all-listed sessionSize b 0 (eqb-true (length b) sessionSize (t .0)))

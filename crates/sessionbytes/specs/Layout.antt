@@ -10,15 +10,16 @@ use Rattle.settings.specs.declared.Settings.{Settings}
 use Rattle.settings.specs.declared.InUse.{InUse}
 use Rattle.session.specs.declared.Phase.{Phase}
 use Rattle.session.specs.declared.Phase.the-variants.{Rest, Instruction, Data}
+use Rattle.session.specs.declared.Port.{Port}
 use Rattle.session.specs.declared.Session.{Session}
 
 -- how many bytes a session has
 abbrev pub sessionSize : ℕ
-sessionSize = 20
+sessionSize = 21
 
 -- the version of the layout: another layout has another one
 abbrev pub layoutVersion : ℕ
-layoutVersion = 3
+layoutVersion = 4
 
 -- 0 rest, 1 instruction, 2 data
 abbrev pub phaseByte : Phase → ℕ
@@ -38,13 +39,17 @@ settingsBytes t =
 abbrev pub usedBytes : InUse → List ℕ
 usedBytes u = bitOf (u .lsb) ∷ bitOf (u .ascending) ∷ bitOf (u .sdo) ∷ bitOf (u .single) ∷ []
 
--- The bytes of a session: the version, the last levels of CSB and SCLK, the phase, the bits taken and their value, the address,
--- the direction, the settings and those in use, and the bytes left of a run. What has 16 bits is big-endian.
+-- The bytes of a port: the last levels of CSB and SCLK, the phase, the bits taken and their value, the address, the direction, the
+-- settings and those in use, and the bytes left of a run. What has 16 bits is big-endian.
+abbrev pub portBytes : Port → List ℕ
+portBytes p =
+    bitOf (p .csb) ∷ bitOf (p .sclk) ∷ phaseByte (p .phase)
+    ∷ p .bits ∷ p .value / 256 ∷ p .value % 256 ∷ p .address / 256 ∷ p .address % 256 ∷ bitOf (p .read)
+    ∷ settingsBytes (p .settings) ++ usedBytes (p .used) ++ (p .left ∷ [])
+
+-- The bytes of a session: the version, its port, and whether it is armed.
 unfoldable pub sessionBytes : Session → List ℕ
-sessionBytes s =
-    layoutVersion ∷ bitOf (s .csb) ∷ bitOf (s .sclk) ∷ phaseByte (s .phase)
-    ∷ s .bits ∷ s .value / 256 ∷ s .value % 256 ∷ s .address / 256 ∷ s .address % 256 ∷ bitOf (s .read)
-    ∷ settingsBytes (s .settings) ++ usedBytes (s .used) ++ (s .left ∷ [])
+sessionBytes s = layoutVersion ∷ portBytes (s .port) ++ (bitOf (s .armed) ∷ [])
 
 -- the byte at a place
 abbrev byteAt : List ℕ → ℕ → ℕ
@@ -57,6 +62,7 @@ fieldTests b =
     ∷ leb (byteAt b 1) 1 ∷ leb (byteAt b 2) 1 ∷ leb (byteAt b 3) 2 ∷ leb (byteAt b 9) 1
     ∷ leb (byteAt b 10) 1 ∷ leb (byteAt b 11) 1 ∷ leb (byteAt b 12) 1 ∷ leb (byteAt b 13) 1 ∷ leb (byteAt b 14) 1
     ∷ leb (byteAt b 15) 1 ∷ leb (byteAt b 16) 1 ∷ leb (byteAt b 17) 1 ∷ leb (byteAt b 18) 1
+    ∷ leb (byteAt b 20) 1
     ∷ []
 
 -- Whether bytes are a session: as many as it has, and each field is one.
@@ -71,9 +77,9 @@ wordOf high low = high * 256 + low
 abbrev flagAt : List ℕ → ℕ → Bool
 flagAt b i = eqb (byteAt b i) 1
 
--- The session that bytes are.
-unfoldable pub sessionOf : List ℕ → Session
-sessionOf b = record {
+-- The port that bytes are.
+abbrev pub portOf : List ℕ → Port
+portOf b = record {
   csb = flagAt b 1;
   sclk = flagAt b 2;
   phase = phaseOf (byteAt b 3);
@@ -91,3 +97,7 @@ sessionOf b = record {
   used = record { lsb = flagAt b 15; ascending = flagAt b 16; sdo = flagAt b 17; single = flagAt b 18 };
   left = byteAt b 19;
 }
+
+-- The session that bytes are.
+unfoldable pub sessionOf : List ℕ → Session
+sessionOf b = record { port = portOf b; armed = flagAt b 20 }

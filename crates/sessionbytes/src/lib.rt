@@ -3,15 +3,16 @@ ghost use mathlib.Core.Path.{_≡_};
 ghost use lib.ListN.{length};
 ghost use Rattle.sessionbytes.specs.Layout.{sessionSize, phaseByte, phaseOf, wordOf, sessionBytes, areSession, sessionOf};
 use session::Phase;
+use session::Port;
 use session::Session;
 use settings::InUse;
 use settings::Settings;
 
 // How many bytes a session has.
-pub const SIZE: usize = 20;
+pub const SIZE: usize = 21;
 
 // The version of the layout: the first byte.
-const VERSION: u8 = 3;
+const VERSION: u8 = 4;
 
 // The byte of a phase.
 fn phase_byte(phase: Phase) -> u8
@@ -44,32 +45,34 @@ fn word(high: u8, low: u8) -> u16
     high as u16 * 256 + low as u16
 }
 
-// The bytes of a session.
+// The bytes of a port.
 pub fn bytes_of(session: Session) -> [u8; SIZE]
     ensures { λ r. ⌜ r ≡ sessionBytes session ⌝ }
 {
-    let phase = session.phase;
+    let port = session.port;
+    let phase = port.phase;
     [
         VERSION,
-        session.csb as u8,
-        session.sclk as u8,
+        port.csb as u8,
+        port.sclk as u8,
         phase_byte(phase),
-        session.bits,
-        (session.value / 256) as u8,
-        (session.value % 256) as u8,
-        (session.address / 256) as u8,
-        (session.address % 256) as u8,
-        session.read as u8,
-        session.settings.lsb as u8,
-        session.settings.ascending as u8,
-        session.settings.sdo as u8,
-        session.settings.single as u8,
-        session.settings.readback as u8,
-        session.used.lsb as u8,
-        session.used.ascending as u8,
-        session.used.sdo as u8,
-        session.used.single as u8,
-        session.left,
+        port.bits,
+        (port.value / 256) as u8,
+        (port.value % 256) as u8,
+        (port.address / 256) as u8,
+        (port.address % 256) as u8,
+        port.read as u8,
+        port.settings.lsb as u8,
+        port.settings.ascending as u8,
+        port.settings.sdo as u8,
+        port.settings.single as u8,
+        port.settings.readback as u8,
+        port.used.lsb as u8,
+        port.used.ascending as u8,
+        port.used.sdo as u8,
+        port.used.single as u8,
+        port.left,
+        session.armed as u8,
     ]
 }
 
@@ -94,6 +97,7 @@ pub fn are_session(bytes: &[u8]) -> bool
         & (bytes[16] <= 1)
         & (bytes[17] <= 1)
         & (bytes[18] <= 1)
+        & (bytes[20] <= 1)
 }
 
 // The session that bytes are.
@@ -101,7 +105,7 @@ pub fn session_of(bytes: &[u8]) -> Session
     requires { ⌜ length (now bytes) ≡ sessionSize ⌝ }
     ensures { λ r. ⌜ r ≡ sessionOf (now (bytes .entry)) ⌝ }
 {
-    Session {
+    let port = Port {
         csb: bytes[1] == 1,
         sclk: bytes[2] == 1,
         phase: phase_of(bytes[3]),
@@ -123,5 +127,9 @@ pub fn session_of(bytes: &[u8]) -> Session
             single: bytes[18] == 1,
         },
         left: bytes[19],
+    };
+    Session {
+        port: port,
+        armed: bytes[20] == 1,
     }
 }

@@ -5,4 +5,4 @@ use Rattle.session.specs.State.{resting}
 
 -- Opening: at rest, last SCLK low, all settings clear.
 abbrev pub openedSession : Session
-openedSession = resting false (record { lsb = false; ascending = false; sdo = false; single = false; readback = false })
+openedSession = record { port = resting false (record { lsb = false; ascending = false; sdo = false; single = false; readback = false }); armed = false }

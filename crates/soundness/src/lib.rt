@@ -2,11 +2,12 @@
 ghost use mathlib.Core.Path.{_≡_};
 ghost use Prim.Native.Nat.{_^_};
 ghost use lib.Dec.{ltb};
-ghost use Rattle.session.specs.State.{lengthGood, soundSession};
+ghost use Rattle.session.specs.State.{isRest, lengthGood, mayArm, soundPort, soundSession};
 ghost use Rattle.soundness.specs.Opened.{openedSession};
 use chip::Chip;
 use chip::is_newer;
 use session::Phase;
+use session::Port;
 use session::STREAMS;
 use session::Session;
 use session::is_counted;
@@ -24,7 +25,7 @@ pub fn opened() -> Session
         sdo: false,
         single: false,
     };
-    Session {
+    let port = Port {
         csb: true,
         sclk: false,
         phase: Phase::Rest,
@@ -41,6 +42,10 @@ pub fn opened() -> Session
         },
         used: used,
         left: 0,
+    };
+    Session {
+        port: port,
+        armed: false,
     }
 }
 
@@ -66,38 +71,65 @@ fn length_good(chip: Chip, left: u8, address: u16) -> bool
     }
 }
 
-// Whether the session is sound. The list of conditions is complete: a sound session need not be one that samples lead to.
+// Whether the port is sound. The list of conditions is complete: a sound port need not be one that samples lead to.
+fn sound_port(chip: Chip, port: Port) -> bool
+    ensures { λ r. ⌜ r ≡ soundPort chip port ⌝ }
+{
+    let phase = port.phase;
+    match phase {
+        Phase::Rest => {
+            (port.csb | !is_newer(chip))
+                & (port.bits == 0)
+                & (port.value == 0)
+                & (port.address == 0)
+                & !port.read
+                & (port.left == 0)
+                & !port.used.lsb
+                & !port.used.ascending
+                & !port.used.sdo
+                & !port.used.single
+        }
+        Phase::Instruction => {
+            !port.csb
+                & (port.bits <= 15)
+                & value_fits(port.value, port.bits)
+                & (port.address == 0)
+                & !port.read
+                & (port.left == 0)
+        }
+        Phase::Data => {
+            (!port.csb | may_stall(port.left, port.bits))
+                & (port.bits <= 7)
+                & value_fits(port.value, port.bits)
+                & (port.address <= 0x7FFF)
+                & length_good(chip, port.left, port.address)
+        }
+    }
+}
+
+// Whether the phase is rest.
+fn is_rest(phase: Phase) -> bool
+    ensures { λ r. ⌜ r ≡ isRest phase ⌝ }
+{
+    match phase {
+        Phase::Rest => true,
+        Phase::Instruction => false,
+        Phase::Data => false,
+    }
+}
+
+// Whether a session with this port may be armed: inside a frame of a newer chip.
+fn may_arm(chip: Chip, port: Port) -> bool
+    ensures { λ r. ⌜ r ≡ mayArm chip port ⌝ }
+{
+    let phase = port.phase;
+    is_newer(chip) & !is_rest(phase)
+}
+
+// Whether the session is sound: its port is, and it is armed only where it may be.
 pub fn sound(chip: Chip, session: Session) -> bool
     ensures { λ r. ⌜ r ≡ soundSession chip session ⌝ }
 {
-    let phase = session.phase;
-    match phase {
-        Phase::Rest => {
-            (session.csb | !is_newer(chip))
-                & (session.bits == 0)
-                & (session.value == 0)
-                & (session.address == 0)
-                & !session.read
-                & (session.left == 0)
-                & !session.used.lsb
-                & !session.used.ascending
-                & !session.used.sdo
-                & !session.used.single
-        }
-        Phase::Instruction => {
-            !session.csb
-                & (session.bits <= 15)
-                & value_fits(session.value, session.bits)
-                & (session.address == 0)
-                & !session.read
-                & (session.left == 0)
-        }
-        Phase::Data => {
-            (!session.csb | may_stall(session.left, session.bits))
-                & (session.bits <= 7)
-                & value_fits(session.value, session.bits)
-                & (session.address <= 0x7FFF)
-                & length_good(chip, session.left, session.address)
-        }
-    }
+    let port = session.port;
+    sound_port(chip, port) & (!session.armed | may_arm(chip, port))
 }

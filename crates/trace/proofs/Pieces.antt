@@ -1,4 +1,4 @@
--- Samples without an event on a sound session: SCLK moves, bits are taken, and CSB stays as it is.
+-- Samples without an event on a sound port: SCLK moves, bits are taken, and CSB stays as it is.
 use mathlib.Core.Path.{_≡_, refl, sym, _∙_, subst}
 use mathlib.Core.Bool.{Bool, true, false, cond, not, _&&_, false≢true}
 use mathlib.Core.List.{List}
@@ -16,10 +16,10 @@ use Rattle.chip.specs.declared.Chip.{Chip}
 use Rattle.settings.specs.Settings.{counting}
 use Rattle.session.specs.declared.Phase.{Phase}
 use Rattle.session.specs.declared.Phase.the-variants.{Rest, Instruction, Data}
-use Rattle.session.specs.declared.Session.{Session}
+use Rattle.session.specs.declared.Port.{Port}
 use Rattle.session.specs.declared.Event.{Event}
 use Rattle.session.specs.declared.Event.the-variants.{Nothing}
-use Rattle.session.specs.State.{isData, soundSession, withLevels}
+use Rattle.session.specs.State.{isData, soundPort, withLevels}
 use Rattle.session.specs.Step.{csbOf, sclkOf, csbFalls, csbRises, frameStarts, frameEnds, takesBit, valueWith, usedOn, withInstructionBit, withDataBit, stepOf}
 use Rattle.session.specs.Event.{bitEvent, eventOf}
 use Rattle.session.proofs.Form.{Form, rests, instructs, has-data, stalls, passes, sound-form}
@@ -102,16 +102,16 @@ even-level x f = omega (arith, f)
 
 module _ (c : Chip) where
   -- CSB stays and no bit is taken: only the last levels change
-  stays : (s : Session) (x : ℕ) → csbFalls s x ≡ false → takesBit s x ≡ false → csbRises s x ≡ false
+  stays : (s : Port) (x : ℕ) → csbFalls s x ≡ false → takesBit s x ≡ false → csbRises s x ≡ false
       → (stepOf c s x ≡ withLevels s x) × (eventOf c s x ≡ Nothing)
   unfolding stepOf eventOf
   stays s x f t r =
       let f' : frameStarts s x ≡ false = rw f in
       let r' : frameEnds s x ≡ false = rw r in
-      (sym (no _ f' (no _ t (no _ r' refl))), sym (no _ t (no _ r refl)))
+      (sym (no _ f' (no _ t (no _ r' refl))), sym (no _ t (no _ r' refl)))
 
   -- one bit more, which is not the last of its piece
-  abbrev bitTaken : Session → ℕ → Session
+  abbrev bitTaken : Port → ℕ → Port
   bitTaken s x = record {
     csb = false;
     sclk = true;
@@ -125,7 +125,7 @@ module _ (c : Chip) where
     used = s .used;
   }
 
-  takes : {s : Session} → Form c s → (x : ℕ) → takesBit s x ≡ true → s .bits < lastOf (s .phase) → stepOf c s x ≡ bitTaken s x
+  takes : {s : Port} → Form c s → (x : ℕ) → takesBit s x ≡ true → s .bits < lastOf (s .phase) → stepOf c s x ≡ bitTaken s x
   unfolding stepOf withInstructionBit withDataBit
   takes (rests k t) x b h = absurd (omega arith)
   takes (instructs k n v t u g f) x b h = rw (b, lt-ltb n 15 h)
@@ -133,12 +133,12 @@ module _ (c : Chip) where
   takes (stalls k a r l t u f e d) x b h = absurd (false≢true b)
   takes (passes k t e) x b h = absurd (omega arith)
 
-  takes-nothing : (s : Session) (x : ℕ) → takesBit s x ≡ true → s .bits < lastOf (s .phase) → eventOf c s x ≡ Nothing
+  takes-nothing : (s : Port) (x : ℕ) → takesBit s x ≡ true → s .bits < lastOf (s .phase) → eventOf c s x ≡ Nothing
   unfolding eventOf bitEvent
   takes-nothing s x b h = rw b (not-whole (s .phase) (s .bits) _ h)
 
   -- CSB low before and now
-  module _ (s : Session) (p : Piece) (x : ℕ) (low : s .csb ≡ false) (e : x % 2 ≡ 0) (apt : Apt c s p) where
+  module _ (s : Port) (p : Piece) (x : ℕ) (low : s .csb ≡ false) (e : x % 2 ≡ 0) (apt : Apt c s p) where
     bit-test : takesBit (held s p) x ≡ (not (eqb (p .level) 2) && eqb (x % 4) 2)
     bit-test = rw (low, csb-low x e, sclk-level x (x % 4) (omega arith))
 
@@ -160,7 +160,7 @@ module _ (c : Chip) where
         (takes (sound-form c (held s p) (apt .sound)) x b k ∙ rw (low, t), takes-nothing (held s p) x b k)
 
   -- a step that gives a piece and no event
-  stepped : {xs : List ℕ} {s : Session} {i : ℕ} {p : Piece} (q : Piece) → Reached c xs s i p → p .at < length xs → q .at ≡ p .at + 1
+  stepped : {xs : List ℕ} {s : Port} {i : ℕ} {p : Piece} (q : Piece) → Reached c xs s i p → p .at < length xs → q .at ≡ p .at + 1
       → q .level % 2 ≡ 0 → q .level < 4 → (stepOf c (held s p) (getD xs (p .at) 0) ≡ held s q) × (eventOf c (held s p) (getD xs (p .at) 0) ≡ Nothing)
       → Reached c xs s i q
   stepped {xs} {s} {i} {p} q r h a ev lv e = record {
@@ -170,12 +170,12 @@ module _ (c : Chip) where
     path = rw (e .0, sym a) at (more (r .path) h (e .1));
   }
 
-  -- the start: a piece as a session has it
-  pub begun : {xs : List ℕ} {s : Session} (p : Piece) → Apt c s p → p .at < length xs → Reached c xs (held s p) (p .at) p
+  -- the start: a piece as a port has it
+  pub begun : {xs : List ℕ} {s : Port} (p : Piece) → Apt c s p → p .at < length xs → Reached c xs (held s p) (p .at) p
   begun p a h = record { ahead = omega arith; within = omega (arith, h); apt = record { even = a .even; level = a .level; sound = a .sound }; path = still }
 
-  -- the piece of a session itself
-  pub own : {xs : List ℕ} {s : Session} (p : Piece) → soundSession c s ≡ true → p .at ≤ length xs
+  -- the piece of a port itself
+  pub own : {xs : List ℕ} {s : Port} (p : Piece) → soundPort c s ≡ true → p .at ≤ length xs
       → p .level ≡ cond (s .sclk) 2 0 → p .bits ≡ s .bits → p .value ≡ s .value → Reached c xs s (p .at) p
   own {xs} {s} p f h el eb ev =
       let same : held s p ≡ s = rw (el, eb, ev, level-is) in
@@ -185,12 +185,12 @@ module _ (c : Chip) where
         apt = record {
           even = rw el (level-even (s .sclk));
           level = rw el (level-lt (s .sclk));
-          sound = subst (λ (t : Session). soundSession c t ≡ true) (sym same) f;
+          sound = subst (λ (t : Port). soundPort c t ≡ true) (sym same) f;
         };
-        path = subst (λ (t : Session). Quiet c xs s (p .at) t (p .at)) (sym same) still;
+        path = subst (λ (t : Port). Quiet c xs s (p .at) t (p .at)) (sym same) still;
       }
 
-  module _ {xs : List ℕ} {s : Session} {i : ℕ} (low : s .csb ≡ false) where
+  module _ {xs : List ℕ} {s : Port} {i : ℕ} (low : s .csb ≡ false) where
     pub idle : {p : Piece} → Reached c xs s i p → p .at < length xs → getD xs (p .at) 0 % 2 ≡ 0 → getD xs (p .at) 0 % 4 ≤ p .level
         → Reached c xs s i (piece (getD xs (p .at) 0 % 4) (p .bits) (p .value) (p .at + 1))
     idle {p} r h e k = stepped _ r h refl (omega arith) (omega arith) (idle-step s p (getD xs (p .at) 0) low e (r .apt) k)
@@ -231,23 +231,23 @@ module _ (c : Chip) where
         rw (z, add-one n, e) at (idle b (omega (arith, c .within)) (omega (arith, z)) (omega (arith, z)))
 
   -- at its start, a piece has no bits and no value
-  pub no-value : (s : Session) → soundSession c s ≡ true → s .bits ≡ 0 → s .value ≡ 0
+  pub no-value : (s : Port) → soundPort c s ≡ true → s .bits ≡ 0 → s .value ≡ 0
   no-value s h e = omega (arith, rw e at (fit-sound c s h .small))
 
   -- all bits of a piece but the last, each of a pair of samples, and the first sample of the last
-  pub bits-passed : {xs : List ℕ} {s : Session} {i : ℕ} (n : ℕ) → s .csb ≡ false → soundSession c s ≡ true → s .bits ≡ 0 → n ≡ lastOf (s .phase)
+  pub bits-passed : {xs : List ℕ} {s : Port} {i : ℕ} (n : ℕ) → s .csb ≡ false → soundPort c s ≡ true → s .bits ≡ 0 → n ≡ lastOf (s .phase)
       → Clocked xs i (suc n) → i ≤ length xs
       → Reached c xs s i (piece 0 n (gathered xs (lineOf c s) (s .used .lsb) i n) (i + 2 * n + 1))
   bits-passed {xs} {s} {i} n low f e l c h = pairs low (cond (s .sclk) 2 0) i n (own (piece (cond (s .sclk) 2 0) 0 0 i) f h refl (sym e) (sym (no-value s f e))) c (omega arith)
 
   -- CSB high before and now
-  module _ (s : Session) (p : Piece) (x : ℕ) (up : s .csb ≡ true) (e : x % 2 ≡ 1) where
+  module _ (s : Port) (p : Piece) (x : ℕ) (up : s .csb ≡ true) (e : x % 2 ≡ 1) where
     high-step : (stepOf c (held s p) x ≡ held s (piece (x % 4 - 1) (p .bits) (p .value) (p .at + 1))) × (eventOf c (held s p) x ≡ Nothing)
     high-step =
         let r = stays (held s p) x (rw (up, csb-high x e)) (rw up) (rw up) in
         (r .0 ∙ rw (up, csb-high x e, sclk-level x (x % 4 - 1) (omega arith)), r .1)
 
-  module _ {xs : List ℕ} {s : Session} {i : ℕ} (up : s .csb ≡ true) where
+  module _ {xs : List ℕ} {s : Port} {i : ℕ} (up : s .csb ≡ true) where
     high : {p : Piece} → Reached c xs s i p → p .at < length xs → getD xs (p .at) 0 % 2 ≡ 1
         → Reached c xs s i (piece (getD xs (p .at) 0 % 4 - 1) (p .bits) (p .value) (p .at + 1))
     high {p} r h e = stepped _ r h refl (omega arith) (omega arith) (high-step s p (getD xs (p .at) 0) up e)
@@ -271,17 +271,17 @@ module _ (c : Chip) where
         let b : p .at + n ≡ j - 1 = omega arith in
         rw (a, b) at (highs p n r (λ k g. sym (and-mask (getD xs (p .at + k) 0) 1) ∙ m .all k (omega arith)) (omega (arith, m .within)))
 
-  pub line-lt : (s : Session) → lineOf c s < 4
+  pub line-lt : (s : Port) → lineOf c s < 4
   line-lt s = each (λ (n : ℕ). n < 4) (isData (s .phase) && s .read && usedOn c s .sdo) (λ e. omega arith) (λ e. omega arith)
 
   -- what a bit more asks
-  pub room-for-bit : {s : Session} {p : Piece} → Apt c s p → (p .bits < 16) × (p .value < 2 ^ p .bits)
+  pub room-for-bit : {s : Port} {p : Piece} → Apt c s p → (p .bits < 16) × (p .value < 2 ^ p .bits)
   room-for-bit {s} {p} a =
       let f = fit-sound c (held s p) (a .sound) in
       (few-bits (s .phase) (p .bits) (f .unfinished), f .small)
 
   -- from a piece that is reached to another
-  pub reached-join : {xs : List ℕ} {s : Session} {i : ℕ} {p q : Piece} → Reached c xs s i p → Reached c xs (held s p) (p .at) q → Reached c xs s i q
+  pub reached-join : {xs : List ℕ} {s : Port} {i : ℕ} {p q : Piece} → Reached c xs s i p → Reached c xs (held s p) (p .at) q → Reached c xs s i q
   reached-join r t = record {
     ahead = omega (arith, r .ahead, t .ahead);
     within = t .within;

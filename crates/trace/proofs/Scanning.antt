@@ -7,10 +7,10 @@ use native.Mathlib.Omega.{arith}
 use lib.ListN.{length, getD}
 use Rattle.settings.specs.Settings.{nextAddress}
 use Rattle.chip.specs.declared.Chip.{Chip}
-use Rattle.session.specs.declared.Session.{Session}
+use Rattle.session.specs.declared.Port.{Port}
 use Rattle.session.specs.declared.Event.{Event}
-use Rattle.session.specs.declared.Event.the-variants.{Nothing, Whole, Aborted}
-use Rattle.session.specs.State.{soundSession}
+use Rattle.session.specs.declared.Event.the-variants.{Nothing, Whole, Aborted, Ended}
+use Rattle.session.specs.State.{soundPort}
 use Rattle.session.specs.Step.{stepOf}
 use Rattle.session.specs.Event.{eventOf}
 use Rattle.session.proofs.Laws.{sound-step}
@@ -25,23 +25,24 @@ pub quiet-event : (e : Event) → happens e ≡ false → e ≡ Nothing
 quiet-event Nothing h = refl
 quiet-event (Whole r a v) h = absurd (true≢false h)
 quiet-event (Aborted a b d) h = absurd (true≢false h)
+quiet-event Ended h = absurd (true≢false h)
 
 module _ (c : Chip) where
-  -- from session s₀ before sample i to session s before sample j
-  pub record Scanned (xs : List ℕ) (s₀ : Session) (i : ℕ) (s : Session) (j : ℕ) : Type 0 where
+  -- from port s₀ before sample i to port s before sample j
+  pub record Scanned (xs : List ℕ) (s₀ : Port) (i : ℕ) (s : Port) (j : ℕ) : Type 0 where
     pub ahead : i ≤ j
     pub within : j ≤ length xs
-    pub sound : soundSession c s ≡ true
+    pub sound : soundPort c s ≡ true
     pub path : Quiet c xs s₀ i s j
 
-  pub scan-begun : {xs : List ℕ} {s : Session} {i : ℕ} → soundSession c s ≡ true → i ≤ length xs → Scanned xs s i s i
+  pub scan-begun : {xs : List ℕ} {s : Port} {i : ℕ} → soundPort c s ≡ true → i ≤ length xs → Scanned xs s i s i
   scan-begun f h = record { ahead = omega arith; within = h; sound = f; path = still }
 
-  module _ {xs : List ℕ} {s₀ : Session} {i : ℕ} {s : Session} {j : ℕ} (k : Scanned xs s₀ i s j) where
+  module _ {xs : List ℕ} {s₀ : Port} {i : ℕ} {s : Port} {j : ℕ} (k : Scanned xs s₀ i s j) where
     pub scan-quiet : {p : Piece} → Reached c xs s j p → Scanned xs s₀ i (held s p) (p .at)
     scan-quiet r = record { ahead = omega (arith, r .ahead); within = r .within; sound = r .apt .sound; path = joined (k .path) (r .path) }
 
-    pub scan-nothing : (t : Session) (e : Event) → j < length xs → t ≡ stepOf c s (getD xs j 0) → e ≡ eventOf c s (getD xs j 0) → happens e ≡ false
+    pub scan-nothing : (t : Port) (e : Event) → j < length xs → t ≡ stepOf c s (getD xs j 0) → e ≡ eventOf c s (getD xs j 0) → happens e ≡ false
         → Scanned xs s₀ i t (j + 1)
     scan-nothing t e h es ee q =
         rw es
@@ -52,7 +53,7 @@ module _ (c : Chip) where
           path = more (k .path) h (sym ee ∙ quiet-event e q);
         })
 
-    pub scan-event : (t : Session) (e : Event) → j < length xs → t ≡ stepOf c s (getD xs j 0) → e ≡ eventOf c s (getD xs j 0) → Passed c xs s₀ i e t (j + 1)
+    pub scan-event : (t : Port) (e : Event) → j < length xs → t ≡ stepOf c s (getD xs j 0) → e ≡ eventOf c s (getD xs j 0) → Passed c xs s₀ i e t (j + 1)
     scan-event t e h es ee = rw (es, ee) (record { further = omega arith; within = omega arith; path = one (k .path) h })
 
     pub scan-byte : (e : Event) (a : ℕ) → ByteAhead c xs s j → e ≡ Whole (s .read) (s .address) (gathered xs (lineOf c s) (s .used .lsb) j 8)

@@ -15,9 +15,9 @@ use Rattle.chip.specs.declared.Chip.{Chip}
 use Rattle.chip.specs.declared.Chip.the-variants.{Newer, Older}
 use Rattle.session.specs.declared.Phase.{Phase}
 use Rattle.session.specs.declared.Phase.the-variants.{Rest, Instruction, Data}
-use Rattle.session.specs.declared.Session.{Session}
+use Rattle.session.specs.declared.Port.{Port}
 use Rattle.session.specs.declared.Event.the-variants.{Whole}
-use Rattle.session.specs.State.{isData, soundSession}
+use Rattle.session.specs.State.{isData, soundPort}
 use Rattle.session.specs.Step.{takesBit, valueWith, withDataBit, stepOf}
 use Rattle.session.specs.Event.{bitEvent, eventOf}
 use Rattle.session.proofs.Form.{Form, rests, instructs, has-data, stalls, passes, sound-form}
@@ -27,8 +27,8 @@ use Rattle.trace.specs.Piece.{held, lastOf, lineOf, streamTests, ByteAhe
 use Rattle.words.proofs.Masks.{gathered-more}
 use Rattle.trace.proofs.Pieces.{piece, on-line, bits-passed, bit-taken, no-value}
 
--- a session with the level of SCLK high and another address
-abbrev pub moved : Session → ℕ → Session
+-- a port with the level of SCLK high and another address
+abbrev pub moved : Port → ℕ → Port
 moved s a = record {
   csb = s .csb;
   sclk = true;
@@ -50,7 +50,7 @@ kept false t a v h =
     rw (ne-eqb a 0 (λ (z : a ≡ 0). omega arith), ne-eqb a 1 (λ (z : a ≡ 1). omega arith))
 
 -- the last bit of a byte
-abbrev byteTaken : Session → Session
+abbrev byteTaken : Port → Port
 byteTaken s = record {
   csb = false;
   sclk = true;
@@ -64,7 +64,7 @@ byteTaken s = record {
   used = s .used;
 }
 
-last-bit : {s : Session} → Form Newer s → (x : ℕ) → takesBit s x ≡ true → isData (s .phase) ≡ true → s .bits ≡ 7 → s .used .single ≡ false
+last-bit : {s : Port} → Form Newer s → (x : ℕ) → takesBit s x ≡ true → isData (s .phase) ≡ true → s .bits ≡ 7 → s .used .single ≡ false
     → (s .read || leb 2 (s .address)) ≡ true
     → (stepOf Newer s x ≡ byteTaken s) × (eventOf Newer s x ≡ Whole (s .read) (s .address) (valueWith s (bitAt x (lineOf Newer s))))
 unfolding stepOf withDataBit eventOf bitEvent
@@ -81,7 +81,7 @@ data-last Instruction e = absurd (false≢true e)
 data-last Data e = refl
 
 -- such a byte is the next event
-pub whole-byte : {c : Chip} {xs : List ℕ} {s : Session} {i : ℕ} → soundSession c s ≡ true → ByteAhead c xs s i
+pub whole-byte : {c : Chip} {xs : List ℕ} {s : Port} {i : ℕ} → soundPort c s ≡ true → ByteAhead c xs s i
     → Next c xs s i (Whole (s .read) (s .address) (gathered xs (lineOf c s) (s .used .lsb) i 8)) (moved s (nextAddress (s .used .ascending) (s .address))) (i + 16)
 unfolding Pair
 whole-byte {c = Older part top} {s = s} sound b = absurd (false≢true (every-true (streamTests (Older part top) s) (b .streams) .0))

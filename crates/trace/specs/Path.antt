@@ -1,30 +1,30 @@
--- What becomes of a session over samples of which at most the last gives an event.
+-- What becomes of a port over samples of which at most the last gives an event.
 use Prim.Native.Nat.{ℕ, _+_, _<_, _≤_}
 use mathlib.Core.Path.{_≡_}
 use mathlib.Core.Bool.{Bool, true, false}
 use mathlib.Core.List.{List}
 use lib.ListN.{length, getD}
 use Rattle.chip.specs.declared.Chip.{Chip}
-use Rattle.session.specs.declared.Session.{Session}
+use Rattle.session.specs.declared.Port.{Port}
 use Rattle.session.specs.declared.Event.{Event}
-use Rattle.session.specs.declared.Event.the-variants.{Nothing, Whole, Aborted}
+use Rattle.session.specs.declared.Event.the-variants.{Nothing, Whole, Aborted, Ended}
 use Rattle.session.specs.Step.{stepOf}
 use Rattle.session.specs.Event.{eventOf}
 
--- Session s before sample i becomes t before sample j, and no sample between gives an event.
-pub data Quiet (c : Chip) (xs : List ℕ) (s : Session) (i : ℕ) : Session → ℕ → Type 0 where
+-- Port s before sample i becomes t before sample j, and no sample between gives an event.
+pub data Quiet (c : Chip) (xs : List ℕ) (s : Port) (i : ℕ) : Port → ℕ → Type 0 where
   still : Quiet c xs s i s i
-  more : {t : Session} {j : ℕ} → Quiet c xs s i t j → j < length xs → eventOf c t (getD xs j 0) ≡ Nothing
+  more : {t : Port} {j : ℕ} → Quiet c xs s i t j → j < length xs → eventOf c t (getD xs j 0) ≡ Nothing
       → Quiet c xs s i (stepOf c t (getD xs j 0)) (j + 1)
 
 -- The same, and then one sample whatever it gives, or none.
-pub data Next (c : Chip) (xs : List ℕ) (s : Session) (i : ℕ) : Event → Session → ℕ → Type 0 where
-  none : {t : Session} {j : ℕ} → Quiet c xs s i t j → Next c xs s i Nothing t j
-  one : {t : Session} {j : ℕ} → Quiet c xs s i t j → j < length xs
+pub data Next (c : Chip) (xs : List ℕ) (s : Port) (i : ℕ) : Event → Port → ℕ → Type 0 where
+  none : {t : Port} {j : ℕ} → Quiet c xs s i t j → Next c xs s i Nothing t j
+  one : {t : Port} {j : ℕ} → Quiet c xs s i t j → j < length xs
       → Next c xs s i (eventOf c t (getD xs j 0)) (stepOf c t (getD xs j 0)) (j + 1)
 
 -- what is promised of the next event: at least one sample is passed
-pub record Passed (c : Chip) (xs : List ℕ) (s : Session) (i : ℕ) (e : Event) (t : Session) (j : ℕ) : Type 0 where
+pub record Passed (c : Chip) (xs : List ℕ) (s : Port) (i : ℕ) (e : Event) (t : Port) (j : ℕ) : Type 0 where
   pub further : i < j
   pub within : j ≤ length xs
   pub path : Next c xs s i e t j
@@ -34,3 +34,4 @@ abbrev pub happens : Event → Bool
 happens Nothing = false
 happens (Whole read address byte) = true
 happens (Aborted address bits inData) = true
+happens Ended = true

@@ -1,4 +1,4 @@
--- What samples without an event change of a session: the level of SCLK, the bits taken and their value.
+-- What samples without an event change of a port: the level of SCLK, the bits taken and their value.
 use Prim.Native.Nat.{ℕ, _%_, _<_, _≤_}
 use mathlib.Core.Path.{_≡_}
 use mathlib.Core.Bool.{Bool, true, cond, not, _&&_, _||_}
@@ -10,15 +10,15 @@ use Rattle.chip.specs.declared.Chip.{Chip}
 use Rattle.chip.specs.Chip.{isNewer}
 use Rattle.session.specs.declared.Phase.{Phase}
 use Rattle.session.specs.declared.Phase.the-variants.{Rest, Instruction, Data}
-use Rattle.session.specs.declared.Session.{Session}
-use Rattle.session.specs.State.{isData, soundSession}
+use Rattle.session.specs.declared.Port.{Port}
+use Rattle.session.specs.State.{isData, soundPort}
 use Rattle.session.specs.Step.{usedOn}
 use Rattle.trace.specs.declared.quiet.Piece.{Piece}
 use Rattle.words.specs.Words.{Clocked}
 use Rattle.trace.specs.Path.{Quiet}
 
--- a session with the level, the bits and the value of a piece
-abbrev pub held : Session → Piece → Session
+-- a port with the level, the bits and the value of a piece
+abbrev pub held : Port → Piece → Port
 held s p = record {
   csb = s .csb;
   sclk = eqb (p .level) 2;
@@ -39,28 +39,28 @@ lastOf Instruction = 15
 lastOf Data = 7
 
 -- the line that bits come from, as its place in a sample
-abbrev pub lineOf : Chip → Session → ℕ
+abbrev pub lineOf : Chip → Port → ℕ
 lineOf c s = cond (isData (s .phase) && s .read && usedOn c s .sdo) 3 2
 
--- a level of SCLK, 0 or 2, and a session that is sound with the piece
-pub record Apt (c : Chip) (s : Session) (p : Piece) : Type 0 where
+-- a level of SCLK, 0 or 2, and a port that is sound with the piece
+pub record Apt (c : Chip) (s : Port) (p : Piece) : Type 0 where
   pub even : p .level % 2 ≡ 0
   pub level : p .level < 4
-  pub sound : soundSession c (held s p) ≡ true
+  pub sound : soundPort c (held s p) ≡ true
 
--- from session s before sample i, without an event, to where a piece stands
-pub record Reached (c : Chip) (xs : List ℕ) (s : Session) (i : ℕ) (p : Piece) : Type 0 where
+-- from port s before sample i, without an event, to where a piece stands
+pub record Reached (c : Chip) (xs : List ℕ) (s : Port) (i : ℕ) (p : Piece) : Type 0 where
   pub ahead : i ≤ p .at
   pub within : p .at ≤ length xs
   pub apt : Apt c s p
   pub path : Quiet c xs s i (held s p) (p .at)
 
 -- on a newer chip, a byte of data starts whose end changes only the address
-abbrev pub streamTests : Chip → Session → List Bool
+abbrev pub streamTests : Chip → Port → List Bool
 streamTests c s =
     isNewer c ∷ isData (s .phase) ∷ eqb (s .bits) 0 ∷ not (s .csb) ∷ not (s .used .single) ∷ (s .read || leb 2 (s .address)) ∷ []
 
 -- and its sixteen samples come next
-pub record ByteAhead (c : Chip) (xs : List ℕ) (s : Session) (i : ℕ) : Type 0 where
+pub record ByteAhead (c : Chip) (xs : List ℕ) (s : Port) (i : ℕ) : Type 0 where
   pub streams : every (streamTests c s) ≡ true
   pub clocked : Clocked xs i 8

@@ -5,7 +5,7 @@ ghost use Prim.Native.Nat.{_<_, _≤_};
 ghost use lib.ListN.{length};
 ghost use Rattle.bits.specs.Tests.{every};
 ghost use Rattle.session.specs.declared.Event.the-variants.{Whole};
-ghost use Rattle.session.specs.State.{soundSession};
+ghost use Rattle.session.specs.State.{soundPort};
 ghost use Rattle.words.specs.Words.{gathered};
 ghost use Rattle.trace.specs.Path.{Passed, happens};
 ghost use Rattle.trace.specs.Piece.{lineOf, streamTests, ByteAhead};
@@ -19,14 +19,14 @@ use card::in_order;
 use chip::Chip;
 use chip::is_newer;
 use session::Event;
-use session::Session;
+use session::Port;
 use words::clocked;
 use words::gather;
 
-// An event, or nothing at the end of the samples; the session after it, and the place of the next sample.
+// An event, or nothing at the end of the samples; the port after it, and the place of the next sample.
 pub struct Next {
     pub event: Event,
-    pub session: Session,
+    pub port: Port,
     pub at: usize,
 }
 
@@ -46,53 +46,54 @@ fn happened(event: Event) -> bool
             bits: _,
             data: _,
         } => true,
+        Event::Ended => true,
     }
 }
 
 // Whether, on a newer chip, a byte of data starts whose end changes only the address.
-fn streams(chip: Chip, session: Session) -> bool
-    ensures { λ r. ⌜ r ≡ every (streamTests chip session) ⌝ }
+fn streams(chip: Chip, port: Port) -> bool
+    ensures { λ r. ⌜ r ≡ every (streamTests chip port) ⌝ }
 {
-    let phase = session.phase;
+    let phase = port.phase;
     is_newer(chip)
         & (last_of(phase) == 7)
-        & (session.bits == 0)
-        & !session.csb
-        & !session.used.single
-        & (session.read | (2 <= session.address))
+        & (port.bits == 0)
+        & !port.csb
+        & !port.used.single
+        & (port.read | (2 <= port.address))
 }
 
 // Whether such a byte comes next, and each of its bits takes two samples.
-fn byte_ahead(chip: Chip, session: Session, samples: &[u8], from: usize) -> bool
+fn byte_ahead(chip: Chip, port: Port, samples: &[u8], from: usize) -> bool
     requires { ⌜ from ≤ length (now samples) ⌝ }
-    ensures { λ r. ⌜ (r ≡ true → ByteAhead chip (now (samples .entry)) session from) ⌝ }
+    ensures { λ r. ⌜ (r ≡ true → ByteAhead chip (now (samples .entry)) port from) ⌝ }
 {
-    if streams(chip, session) {
+    if streams(chip, port) {
         return clocked(samples, from);
     }
     false
 }
 
 // The event of such a byte: gathered highest bit first, and turned by the card where it travels the other way.
-fn byte_event(chip: Chip, session: Session, samples: &[u8], from: usize) -> Event
-    requires { ⌜ ByteAhead chip (now samples) session from ⌝ }
-    ensures { λ r. ⌜ r ≡ Whole (session .read) (session .address) (gathered (now (samples .entry)) (lineOf chip session) (session .used .lsb) from 8) ⌝ }
+fn byte_event(chip: Chip, port: Port, samples: &[u8], from: usize) -> Event
+    requires { ⌜ ByteAhead chip (now samples) port from ⌝ }
+    ensures { λ r. ⌜ r ≡ Whole (port .read) (port .address) (gathered (now (samples .entry)) (lineOf chip port) (port .used .lsb) from 8) ⌝ }
 {
-    let byte = gather(samples, from, line_of(chip, session), false, 8) as u8;
+    let byte = gather(samples, from, line_of(chip, port), false, 8) as u8;
     Event::Whole {
-        read: session.read,
-        address: session.address,
-        byte: in_order(session.used.lsb, byte),
+        read: port.read,
+        address: port.address,
+        byte: in_order(port.used.lsb, byte),
     }
 }
 
 // The samples from a place on up to the next event, or to their end.
-pub fn next_event(chip: Chip, session: Session, samples: &[u8], from: usize) -> Next
-    requires { ⌜ (soundSession chip session ≡ true) × (from < length (now samples)) ⌝ }
-    ensures { λ r. ⌜ Passed chip (now (samples .entry)) session from (r .event) (r .session) (r .at) ⌝ }
+pub fn next_event(chip: Chip, port: Port, samples: &[u8], from: usize) -> Next
+    requires { ⌜ (soundPort chip port ≡ true) × (from < length (now samples)) ⌝ }
+    ensures { λ r. ⌜ Passed chip (now (samples .entry)) port from (r .event) (r .port) (r .at) ⌝ }
 {
     let mut event = Event::Nothing;
-    let mut s = session;
+    let mut s = port;
     let mut at = from;
     while at < samples.len() {
         if byte_ahead(chip, s, samples, at) {
@@ -117,14 +118,14 @@ pub fn next_event(chip: Chip, session: Session, samples: &[u8], from: usize) -> 
         if happened(event) {
             return Next {
                 event: event,
-                session: s,
+                port: s,
                 at: at,
             };
         }
     }
     Next {
         event: event,
-        session: s,
+        port: s,
         at: at,
     }
 }

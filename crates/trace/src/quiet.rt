@@ -3,18 +3,18 @@ ghost use mathlib.Core.Path.{_≡_};
 ghost use mathlib.Core.Bool.{true, false, cond};
 ghost use Prim.Native.Nat.{_<_, _≤_};
 ghost use lib.ListN.{length};
-ghost use Rattle.session.specs.State.{soundSession};
+ghost use Rattle.session.specs.State.{soundPort};
 ghost use Rattle.trace.specs.Piece.{held, lastOf, lineOf, Apt, Reached};
 use bits::bit_at;
 use bits::shift_in;
 use chip::Chip;
 use session::Phase;
-use session::Session;
+use session::Port;
 use words::clocked;
 use words::gather;
 use words::past_same;
 
-// What samples without an event change of a session, the level of SCLK (0 or 2), the bits taken and their value; and the place
+// What samples without an event change of a port, the level of SCLK (0 or 2), the bits taken and their value; and the place
 // of the next sample.
 pub struct Piece {
     pub level: u8,
@@ -35,12 +35,12 @@ pub fn last_of(phase: Phase) -> u8
 }
 
 // The line that bits come from, as its place in a sample.
-pub fn line_of(chip: Chip, session: Session) -> u8
-    ensures { λ r. ⌜ r ≡ lineOf chip session ⌝ }
+pub fn line_of(chip: Chip, port: Port) -> u8
+    ensures { λ r. ⌜ r ≡ lineOf chip port ⌝ }
 {
-    let phase = session.phase;
-    let used = session.used;
-    if (last_of(phase) == 7) & session.read & used.counting(chip).sdo {
+    let phase = port.phase;
+    let used = port.used;
+    if (last_of(phase) == 7) & port.read & used.counting(chip).sdo {
         3
     } else {
         2
@@ -55,9 +55,9 @@ fn level_of(sclk: bool) -> u8
 }
 
 // Past a sample with CSB low, or more where no level changes; not past one that ends the piece.
-fn past_low(chip: Chip, session: Session, samples: &[u8], p: Piece) -> Piece
-    requires { ⌜ (session .csb ≡ false) × (Apt chip session p) × (p .at < length (now samples)) ⌝ }
-    ensures { λ r. ⌜ Reached chip (now (samples .entry)) (held session p) (p .at) r ⌝ }
+fn past_low(chip: Chip, port: Port, samples: &[u8], p: Piece) -> Piece
+    requires { ⌜ (port .csb ≡ false) × (Apt chip port p) × (p .at < length (now samples)) ⌝ }
+    ensures { λ r. ⌜ Reached chip (now (samples .entry)) (held port p) (p .at) r ⌝ }
 {
     let at = p.at;
     let next = past_same(samples, at, 3, p.level);
@@ -82,13 +82,13 @@ fn past_low(chip: Chip, session: Session, samples: &[u8], p: Piece) -> Piece
             at: at + 1,
         };
     }
-    let phase = session.phase;
+    let phase = port.phase;
     if p.bits < last_of(phase) {
-        let bit = bit_at(x, line_of(chip, session));
+        let bit = bit_at(x, line_of(chip, port));
         return Piece {
             level: level,
             bits: p.bits + 1,
-            value: shift_in(session.used.lsb, p.value, p.bits, bit),
+            value: shift_in(port.used.lsb, p.value, p.bits, bit),
             at: at + 1,
         };
     }
@@ -96,25 +96,25 @@ fn past_low(chip: Chip, session: Session, samples: &[u8], p: Piece) -> Piece
 }
 
 // At the start of a piece, past all its bits but the last, where each takes two samples.
-fn past_bits(chip: Chip, session: Session, samples: &[u8], from: usize) -> Piece
-    requires { ⌜ (session .csb ≡ false) × (soundSession chip session ≡ true) × (from ≤ length (now samples)) ⌝ }
-    ensures { λ r. ⌜ Reached chip (now (samples .entry)) session from r ⌝ }
+fn past_bits(chip: Chip, port: Port, samples: &[u8], from: usize) -> Piece
+    requires { ⌜ (port .csb ≡ false) × (soundPort chip port ≡ true) × (from ≤ length (now samples)) ⌝ }
+    ensures { λ r. ⌜ Reached chip (now (samples .entry)) port from r ⌝ }
 {
     let start = Piece {
-        level: level_of(session.sclk),
-        bits: session.bits,
-        value: session.value,
+        level: level_of(port.sclk),
+        bits: port.bits,
+        value: port.value,
         at: from,
     };
-    if session.bits != 0 {
+    if port.bits != 0 {
         return start;
     }
     if !clocked(samples, from) {
         return start;
     }
-    let phase = session.phase;
-    let line = line_of(chip, session);
-    let lsb = session.used.lsb;
+    let phase = port.phase;
+    let line = line_of(chip, port);
+    let lsb = port.used.lsb;
     if last_of(phase) == 7 {
         return Piece {
             level: 0,
@@ -138,13 +138,13 @@ fn past_bits(chip: Chip, session: Session, samples: &[u8], from: usize) -> Piece
 }
 
 // Samples with CSB low, until the piece ends.
-fn low(chip: Chip, session: Session, samples: &[u8], from: usize) -> Piece
-    requires { ⌜ (session .csb ≡ false) × (soundSession chip session ≡ true) × (from ≤ length (now samples)) ⌝ }
-    ensures { λ r. ⌜ Reached chip (now (samples .entry)) session from r ⌝ }
+fn low(chip: Chip, port: Port, samples: &[u8], from: usize) -> Piece
+    requires { ⌜ (port .csb ≡ false) × (soundPort chip port ≡ true) × (from ≤ length (now samples)) ⌝ }
+    ensures { λ r. ⌜ Reached chip (now (samples .entry)) port from r ⌝ }
 {
-    let mut p = past_bits(chip, session, samples, from);
+    let mut p = past_bits(chip, port, samples, from);
     while p.at < samples.len() {
-        let next = past_low(chip, session, samples, p);
+        let next = past_low(chip, port, samples, p);
         if next.at == p.at {
             return next;
         }
@@ -154,11 +154,11 @@ fn low(chip: Chip, session: Session, samples: &[u8], from: usize) -> Piece
 }
 
 // Samples with CSB high, until it falls.
-fn high(chip: Chip, session: Session, samples: &[u8], from: usize) -> Piece
-    requires { ⌜ (session .csb ≡ true) × (soundSession chip session ≡ true) × (from ≤ length (now samples)) ⌝ }
-    ensures { λ r. ⌜ Reached chip (now (samples .entry)) session from r ⌝ }
+fn high(chip: Chip, port: Port, samples: &[u8], from: usize) -> Piece
+    requires { ⌜ (port .csb ≡ true) × (soundPort chip port ≡ true) × (from ≤ length (now samples)) ⌝ }
+    ensures { λ r. ⌜ Reached chip (now (samples .entry)) port from r ⌝ }
 {
-    let mut level = level_of(session.sclk);
+    let mut level = level_of(port.sclk);
     let mut at = from;
     while at < samples.len() {
         let next = past_same(samples, at, 1, 1);
@@ -170,19 +170,19 @@ fn high(chip: Chip, session: Session, samples: &[u8], from: usize) -> Piece
     }
     Piece {
         level: level,
-        bits: session.bits,
-        value: session.value,
+        bits: port.bits,
+        value: port.value,
         at: at,
     }
 }
 
 // Samples that give no event, from a place on.
-pub fn quiet(chip: Chip, session: Session, samples: &[u8], from: usize) -> Piece
-    requires { ⌜ (soundSession chip session ≡ true) × (from ≤ length (now samples)) ⌝ }
-    ensures { λ r. ⌜ Reached chip (now (samples .entry)) session from r ⌝ }
+pub fn quiet(chip: Chip, port: Port, samples: &[u8], from: usize) -> Piece
+    requires { ⌜ (soundPort chip port ≡ true) × (from ≤ length (now samples)) ⌝ }
+    ensures { λ r. ⌜ Reached chip (now (samples .entry)) port from r ⌝ }
 {
-    if session.csb {
-        return high(chip, session, samples, from);
+    if port.csb {
+        return high(chip, port, samples, from);
     }
-    low(chip, session, samples, from)
+    low(chip, port, samples, from)
 }

@@ -26,6 +26,7 @@ use Rattle.writing.specs.declared.Effect.{Effect}
 use Rattle.writing.specs.declared.Effect.the-variants.{Nothing, Active, Buffer, Control, Transfer, Reset, Ignored}
 use Rattle.writing.specs.Effect.{controlEffect, movedBits, effectOf}
 use Rattle.writing.specs.Write.{effectAt, applied, onByte, writeBanks, writtenBy, writtenOf}
+use Rattle.writing.specs.Rise.{movesAtRise, armedBy, armedOn, riseBanks}
 
 -- ---- no effect on a control register is on a byte
 
@@ -95,3 +96,19 @@ module _ {m : List ℕ} {b : Banks} (h : Mapped m b) where
   pub mapped-write : (c : Chip) (a v : ℕ) → Mapped m (writeBanks c m b a v)
   unfolding writeBanks
   mapped-write c a v = mapped-applied a (effectAt c m b a v)
+
+  pub mapped-rise : (c : Chip) (armed : Bool) → Mapped m (riseBanks c m armed b)
+  unfolding riseBanks
+  mapped-rise c armed = each (Mapped m) (armed && movesAtRise c m) (λ e. mapped-transfer h) (λ e. h)
+
+-- the number of an effect arms a session just as the effect does
+pub armed-number : (c : Chip) (m : List ℕ) (armed : Bool) (t : Settings) (a v : ℕ) (e : Effect)
+    → armedOn c m armed (writtenBy c t a v e .effect) ≡ armedBy c m armed e
+unfolding armedOn armedBy writtenBy
+armed-number c m armed t a v Nothing = refl
+armed-number c m armed t a v (Active byte moved) = refl
+armed-number c m armed t a v (Buffer byte moved) = refl
+armed-number c m armed t a v Control = refl
+armed-number c m armed t a v Transfer = refl
+armed-number c m armed t a v Reset = refl
+armed-number c m armed t a v Ignored = refl

@@ -1,2 +1,3 @@
 pub mod Effect
 pub mod Write
+pub mod Rise

@@ -6,14 +6,22 @@ ghost use lib.ListN.{length};
 ghost use Rattle.registers.specs.Banks.{banks, Mapped};
 ghost use Rattle.writing.specs.Write.{stagesAt, applied, onByte, written, controlWritten, writtenBy, Wrote};
 
+mod rise;
 mod rule;
 
 use chip::Chip;
 use registers::reset;
 use registers::transfer;
 use regmap::entry_at;
+pub use rise::armed_on;
+pub use rise::end_frame;
 pub use rule::effect_of;
 use settings::Settings;
+
+// The numbers of two effects: the buffer byte of a register was written; a soft reset.
+const EFFECT_BUFFER: u8 = 2;
+
+const EFFECT_RESET: u8 = 5;
 
 // What a write does to the registers.
 pub enum Effect {
@@ -115,7 +123,7 @@ fn apply(
             buffer[at] = byte;
             Written {
                 byte: byte,
-                effect: 2,
+                effect: EFFECT_BUFFER,
                 moved: moved,
             }
         }
@@ -126,7 +134,7 @@ fn apply(
         }
         Effect::Reset => {
             reset(map, active, buffer);
-            control_answer(chip, settings, address, v, 5)
+            control_answer(chip, settings, address, v, EFFECT_RESET)
         }
         Effect::Ignored => untaken(settings.reading(chip, address)),
     }

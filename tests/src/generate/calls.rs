@@ -1,7 +1,7 @@
 //! What the reader's calls are given: lists of calls from a seed, and all that
 //! can be wrong with one of them.
 
-use super::maps::{self, count_of, good_map, set_entry, Damage};
+use super::maps::{self, count_of, good_map, set_entry, with_flags, Damage};
 use super::older::maps::{good_older_map, Flaw};
 use super::older::sessions::sound_older_session;
 use super::older::traces::older_trace;
@@ -204,6 +204,14 @@ impl Chain {
             chips.push((Some(older), good_older_map(&mut random, older)));
         }
         Chain::of(random, chips)
+    }
+
+    /// One session for two maps that differ in their flag alone.
+    pub fn of_two_flags(seed: u64) -> Self {
+        let mut random = Random::new(seed);
+        let count = maps::count(&mut random).min(200);
+        let map = good_map(&mut random, count);
+        Chain::of(random, [0, 1].map(|flags| (None, with_flags(&map, flags))).to_vec())
     }
 
     fn of(mut random: Random, chips: Vec<(Option<Older>, Vec<u8>)>) -> Self {

@@ -63,12 +63,18 @@ pub fn set_entry(map: &mut [u8], address: usize, entry: [u8; 3]) {
 }
 
 /// A good map of so many registers, all that the rules leave free at random, the
-/// version too.
+/// version too. Half of them have the flag: a transfer when the select rises.
 pub fn good_map(random: &mut Random, count: usize) -> Vec<u8> {
     let entries = good_entries(random, count);
+    in_any_version(random, &entries)
+}
+
+/// A map of these entries, in either version, with the flag or without.
+pub fn in_any_version(random: &mut Random, entries: &[[u8; 3]]) -> Vec<u8> {
     match random.below(4) {
-        0 | 1 => map_of(&entries),
-        flagged => flagged_map_of(flagged as u8 - 2, &entries),
+        0 => map_of(entries),
+        1 => flagged_map_of(0, entries),
+        _ => flagged_map_of(1, entries),
     }
 }
 

@@ -27,6 +27,7 @@ pub fn sound_session(random: &mut Random) -> Session {
         value: random.below(1 << bits) as u16,
         settings,
         in_use: any_usable(random),
+        armed: random.coin(),
         ..Session::opened()
     };
     if phase == Phase::Data {
@@ -50,8 +51,8 @@ fn any_of(random: &mut Random, settings: &[Settings]) -> Settings {
     chosen.fold(Settings::NONE, |sum, &one| sum.with(one))
 }
 
-/// Sound sessions with every number of bits of both pieces, and the one at
-/// rest; nothing else in them is set.
+/// Sound sessions with every number of bits of both pieces, armed or not, and the
+/// one at rest; nothing else in them is set.
 pub fn every_piece() -> Vec<Session> {
     let rest = Session::opened();
     let instruction = Session { levels: 0, phase: Phase::Instruction, ..rest };
@@ -60,7 +61,13 @@ pub fn every_piece() -> Vec<Session> {
     pieces.extend((0..16).map(|bits| Session { bits, ..instruction }));
     pieces.extend((0..8).map(|bits| Session { bits, ..data }));
     pieces.extend((0..8).map(|bits| Session { bits, read: true, ..data }));
+    pieces.extend(armed_pieces(&pieces[1..]));
     pieces
+}
+
+/// The same sessions, armed.
+pub fn armed_pieces(pieces: &[Session]) -> Vec<Session> {
+    pieces.iter().map(|&piece| Session { armed: true, ..piece }).collect()
 }
 
 /// A piece with every setting, setting in use and level of SCLK that is sound.
@@ -106,6 +113,8 @@ pub fn unsound_sessions() -> Vec<Session> {
         Session { address: 1, ..rest },
         Session { address: 0x0100, ..rest },
         Session { read: true, ..rest },
+        Session { armed: true, ..rest },
+        Session { armed: true, levels: CSB | SCLK, ..rest },
         Session { address: 1, ..instruction },
         Session { address: 0x4000, ..instruction },
         Session { read: true, ..instruction },

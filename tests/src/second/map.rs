@@ -14,9 +14,10 @@ pub const CONTROL: u8 = 4;
 pub const VERSION_1: u8 = 1;
 /// Has a flag byte after the count.
 pub const VERSION_2: u8 = 2;
-/// The flags that no map has. Bit 0 asks for a transfer when the select rises,
-/// and nothing does that yet.
-const RESERVED_FLAGS: u8 = 0b1111_1110;
+/// The flag that asks for a transfer when the select rises (Ask 4).
+pub const TRANSFER_ON_RISE: u8 = 0b0000_0001;
+/// The flags that no map has.
+const RESERVED_FLAGS: u8 = !TRANSFER_ON_RISE;
 /// How many registers a map may have.
 const COUNTS: RangeInclusive<usize> = 16..=8_192;
 /// The registers that the place rules speak of, all below this address.

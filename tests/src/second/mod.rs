@@ -14,6 +14,7 @@
 //! | `rules` | what differs from chip to chip |
 //! | `older` | document 02, Ask 1; its sender is in `sender` |
 //! | `converter` | document 02, Ask 3 |
+//! | `registers`, `reader` | document 02, Ask 4: what arms a session, and what its end moves |
 //! | `setup` | document 02, Ask 6 |
 //! | `mend` | document 02, Ask 12 |
 //! | `frames` | document 02, Ask 13 |

@@ -70,6 +70,7 @@ impl Rules for Older {
     fn is_sound(self, session: &Session) -> bool {
         let Session { bits, address, left, .. } = *session;
         session.piece_stands()
+            && !session.armed
             && match session.phase {
                 Phase::Rest | Phase::Instruction => left == 0,
                 Phase::Data => {

@@ -5,7 +5,6 @@ use super::map::RegisterMap;
 use super::registers::Registers;
 use super::rules::{Newer, Rules};
 use super::session::{Event, Session};
-use super::settings::Settings;
 use super::Answer;
 
 pub const RECORD: usize = 7;
@@ -142,11 +141,12 @@ fn next_record_into(
     }
     let (mut after, mut at) = (*session, 0);
     let event = after.next_event(registers.rules, samples, &mut at);
+    if event.is_some() && records.len() < RECORD {
+        return (Answer::refused(6), 0);
+    }
+    move_before(registers, session.armed, &after);
     if let Some(event) = event {
-        let Some(first) = records.first_chunk_mut() else {
-            return (Answer::refused(6), 0);
-        };
-        *first = record_of(event, registers, after.settings);
+        records[..RECORD].copy_from_slice(&record_of(event, registers, &mut after));
     }
     *session = after;
     (Answer::done(usize::from(event.is_some())), at)
@@ -178,23 +178,41 @@ fn write_records(
     records: &mut [u8],
 ) -> usize {
     let (mut count, mut at) = (0, 0);
-    while let Some(event) = session.next_event(registers.rules, samples, &mut at) {
-        let record = record_of(event, registers, session.settings);
+    loop {
+        let was_armed = session.armed;
+        let event = session.next_event(registers.rules, samples, &mut at);
+        move_before(registers, was_armed, session);
+        let Some(event) = event else {
+            return count;
+        };
+        let record = record_of(event, registers, session);
         records[RECORD * count..RECORD * (count + 1)].copy_from_slice(&record);
         count += 1;
     }
-    count
 }
 
-/// What the event does to the registers, and its record.
+/// Moves buffered registers if the session, now at an event or after the last
+/// sample, has come to the end of an armed frame on the way: nothing else on it
+/// clears the mark. A cut at that very end does nothing to the banks itself.
+#[inline(always)]
+fn move_before(registers: &mut Registers<impl Rules>, was_armed: bool, session: &Session) {
+    if was_armed && !session.armed {
+        registers.end_armed_frame();
+    }
+}
+
+/// What the event does to the registers and to the mark of an armed session, and
+/// its record.
 fn record_of(
     event: Event,
     registers: &mut Registers<impl Rules>,
-    settings: Settings,
+    session: &mut Session,
 ) -> [u8; RECORD] {
+    let settings = session.settings;
     match event {
         Event::Written { address, byte } => {
             let written = registers.write(address, byte, settings);
+            session.armed = registers.armed_after(session.armed, written.effect);
             record(WRITE, address, [byte, written.byte, written.effect], written.moved)
         }
         Event::Read { address, byte } => {

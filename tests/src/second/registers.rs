@@ -1,6 +1,6 @@
 //! The registers in their two stages, and what a whole byte does to them.
 
-use super::map::{RegisterMap, BLANK, BUFFERED, CONTROL, PLAIN, READ_ONLY};
+use super::map::{RegisterMap, BLANK, BUFFERED, CONTROL, PLAIN, READ_ONLY, TRANSFER_ON_RISE};
 use super::rules::Rules;
 use super::settings::Settings;
 
@@ -17,6 +17,8 @@ pub struct Registers<'a, R> {
     map: RegisterMap<'a>,
     active: &'a mut [u8],
     buffer: &'a mut [u8],
+    /// Whether the end of a frame may move buffered registers.
+    moves_on_rise: bool,
 }
 
 /// What a write leaves: the byte of the stage written, or the control reading;
@@ -41,7 +43,8 @@ impl<'a, R: Rules> Registers<'a, R> {
         } else if !rules.top_stands(map.count()) {
             Err(12)
         } else {
-            Ok(Registers { rules, map, active, buffer })
+            let moves_on_rise = !R::OLDER && map.flags() & TRANSFER_ON_RISE != 0;
+            Ok(Registers { rules, map, active, buffer, moves_on_rise })
         }
     }
 
@@ -72,6 +75,24 @@ impl<'a, R: Rules> Registers<'a, R> {
                 }
                 Written { byte: self.rules.control_reading(settings, address), effect, moved: 0 }
             }
+        }
+    }
+
+    /// Whether a session is armed after a write with this effect (document 02, Ask
+    /// 4), by what it was before.
+    #[inline(always)]
+    pub(super) fn armed_after(&self, armed: bool, effect: u8) -> bool {
+        match effect {
+            BUFFER_WRITTEN => armed || self.moves_on_rise,
+            SOFT_RESET => false,
+            _ => armed,
+        }
+    }
+
+    /// The end of a frame in an armed session, which may be another map's.
+    pub(super) fn end_armed_frame(&mut self) {
+        if self.moves_on_rise {
+            self.transfer();
         }
     }
 

@@ -36,6 +36,9 @@ pub struct Session {
     /// In data of an older chip, the bytes left of the run, the present one
     /// included, or `STREAMING`; else 0.
     pub left: u8,
+    /// Whether the end of this frame moves buffered registers (document 02, Ask
+    /// 4). Set where a byte is written, with the map at hand: see `Registers`.
+    pub armed: bool,
 }
 
 /// What one sample brought to an end.
@@ -59,6 +62,7 @@ impl Session {
             settings: Settings::NONE,
             in_use: Settings::NONE,
             left: 0,
+            armed: false,
         }
     }
 
@@ -77,7 +81,9 @@ impl Session {
         let nothing_taken = self.bits == 0 && self.value == 0;
         let no_target = self.address == 0 && !self.read;
         let phase_stands = match self.phase {
-            Phase::Rest => nothing_taken && no_target && self.in_use == Settings::NONE,
+            Phase::Rest => {
+                nothing_taken && no_target && self.in_use == Settings::NONE && !self.armed
+            }
             Phase::Instruction => self.is_selected() && self.bits <= 15 && value_fits && no_target,
             Phase::Data => self.bits <= 7 && value_fits && self.address <= LAST_ADDRESS,
         };
@@ -193,6 +199,7 @@ impl Session {
         self.phase = Phase::Rest;
         self.forget_piece();
         self.in_use = Settings::NONE;
+        self.armed = false;
     }
 
     #[inline(always)]

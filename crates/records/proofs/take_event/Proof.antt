@@ -1,8 +1,9 @@
 -- `take_event` meets its contract: one law for each case of the event.
 use borrow.Author.Needs.{needs}
+use native.Mathlib.Omega.{arith}
 use mathlib.Core.Path.{refl, ap}
 use Rattle.records.specs.Records.{recordsIn}
-use Rattle.records.proofs.Taking.{room-for, took-nothing, took-read, took-write, took-abort}
+use Rattle.records.proofs.Taking.{room-for, took-nothing, took-read, took-write, took-abort, took-end}
 use Rattle.records.proofs.take_event.Statement.{statement}
 use Rattle.records.proofs.take_event.Tie as tie
 
@@ -18,17 +19,17 @@ due-byte-requires c κs = search needs
 put-read-requires : tie.Need-put-read-requires
 put-read-requires c κs = room-for (c .before .before .before .before .before .before .before .before .before .before .before .before .pre) (ap recordsIn (c .before .before .before .before .before .before .event .given .1))
 
-add-result : tie.Need-add-result
-add-result c = search needs
+add-t28 : tie.Need-add-t28
+add-t28 c = search needs
 
 same-length : tie.Need-same-length
-same-length c = refl
+same-length c = search needs
 
 same-length-2 : tie.Need-same-length-2
-same-length-2 c = refl
+same-length-2 c = search needs
 
 same-length-3 : tie.Need-same-length-3
-same-length-3 c = c .before .before .put-read .kept .0
+same-length-3 c = search needs
 
 returns : tie.Need-returns
 returns c = took-read (c .before .before .before .before .before .before .before .before .before .event .given .1) (c .before .before .before .before .before .before .before .if1 .taken) (c .before .before .before .before .due-byte .ensures) (c .before .before .put-read .ensures)
@@ -39,38 +40,65 @@ write-requires c κs = search needs
 put-write-requires : tie.Need-put-write-requires
 put-write-requires c κs = room-for (c .before .before .before .before .before .before .before .before .before .before .before .before .before .before .before .before .pre) (ap recordsIn (c .before .before .before .before .before .before .before .before .before .before .event .given .1))
 
-add-result-2 : tie.Need-add-result-2
-add-result-2 c = search needs
+armed-on-requires : tie.Need-armed-on-requires
+armed-on-requires c κs = search needs
+
+add-t36 : tie.Need-add-t36
+add-t36 c = omega (arith, room-for (c .before .before .before .before .before .before .before .before .before .before .before .before .before .before .before .before .before .before .before .before .pre) (ap recordsIn (c .before .before .before .before .before .before .before .before .before .before .before .before .before .before .event .given .1)), c .before .before .before .before .before .before .before .before .before .before .before .before .before .before .before .before .before .before .before .before .good)
 
 enum-known-event-2 : tie.Need-enum-known-event-2
 enum-known-event-2 c = search needs
 
-put-abort-requires : tie.Need-put-abort-requires
-put-abort-requires c κs = room-for (c .before .before .before .before .before .before .before .before .pre) (ap recordsIn (c .before .before .event2 .given .1))
+end-frame-requires : tie.Need-end-frame-requires
+end-frame-requires c κs = search needs
 
-add-result-3 : tie.Need-add-result-3
-add-result-3 c = search needs
+put-abort-requires : tie.Need-put-abort-requires
+put-abort-requires c κs = room-for (c .before .before .before .before .before .before .before .before .before .before .before .before .before .pre) (ap recordsIn (c .before .before .before .before .before .before .before .event2 .given .1))
+
+add-t44 : tie.Need-add-t44
+add-t44 c = search needs
+
+enum-told-2 : tie.Need-enum-told-2
+enum-told-2 c = search needs
+
+end-frame-requires-2 : tie.Need-end-frame-requires-2
+end-frame-requires-2 c κs = search needs
 
 returns-2 : tie.Need-returns-2
 returns-2 c = took-nothing (c .enum-told .given .1)
 
 same-length-4 : tie.Need-same-length-4
-same-length-4 c = c .before .before .before .before .before .before .before .before .write .kept .1 .1 .0
+same-length-4 c = search needs
 
 same-length-5 : tie.Need-same-length-5
-same-length-5 c = c .before .before .before .before .before .before .before .before .write .kept .1 .1 .1 .0
+same-length-5 c = search needs
 
 same-length-6 : tie.Need-same-length-6
-same-length-6 c = c .before .before .put-write .kept .0
+same-length-6 c = search needs
 
 returns-3 : tie.Need-returns-3
-returns-3 c = took-write (c .before .before .before .before .before .before .before .before .before .before .before .before .before .event .given .1) (c .before .before .before .before .before .before .before .before .before .before .before .if1 .left) (c .before .before .before .before .before .before .before .before .write .ensures) (c .before .before .put-write .ensures)
+returns-3 c = took-write (c .before .before .before .before .before .before .before .before .before .before .before .before .before .before .event .given .1) (c .before .before .before .before .before .before .before .before .before .before .before .before .if1 .left) (c .before .before .before .before .before .before .before .before .before .write .ensures) (c .before .before .before .put-write .ensures) (c .armed-on .ensures)
 
 same-length-7 : tie.Need-same-length-7
-same-length-7 c = c .before .before .put-abort .kept .0
+same-length-7 c = search needs
+
+same-length-8 : tie.Need-same-length-8
+same-length-8 c = search needs
+
+same-length-9 : tie.Need-same-length-9
+same-length-9 c = search needs
 
 returns-4 : tie.Need-returns-4
-returns-4 c = took-abort (c .before .before .before .before .before .event2 .given .1) (c .before .before .put-abort .ensures)
+returns-4 c = took-abort (c .before .before .before .before .before .before .before .before .before .before .event2 .given .1) (c .before .before .before .before .before .before .end-frame .ensures) (c .before .before .put-abort .ensures)
+
+same-length-10 : tie.Need-same-length-10
+same-length-10 c = search needs
+
+same-length-11 : tie.Need-same-length-11
+same-length-11 c = search needs
+
+returns-5 : tie.Need-returns-5
+returns-5 c = took-end (c .before .before .before .before .before .enum-told2 .given .1) (c .before .before .end-frame2 .ensures)
 
 pub take-event-spec : {M : Type 1} → statement M
 take-event-spec =
@@ -80,21 +108,30 @@ take-event-spec =
     enum-known-event
     due-byte-requires
     put-read-requires
-    add-result
+    add-t28
     same-length
     same-length-2
     same-length-3
     returns
     write-requires
     put-write-requires
-    add-result-2
+    armed-on-requires
+    add-t36
     enum-known-event-2
+    end-frame-requires
     put-abort-requires
-    add-result-3
+    add-t44
+    enum-told-2
+    end-frame-requires-2
     returns-2
     same-length-4
     same-length-5
     same-length-6
     returns-3
     same-length-7
-    returns-4)
+    same-length-8
+    same-length-9
+    returns-4
+    same-length-10
+    same-length-11
+    returns-5)

@@ -10,13 +10,13 @@ take-event-requires : tie.Need-take-event-requires
 take-event-requires c κs = c .before .before .before .before .before .before .before .before .pre .taking (c .before .before .before .if1 .taken)
 
 same-length : tie.Need-same-length
-same-length c = c .before .before .before .before .before .before .take-event .kept .1 .1 .0
+same-length c = search needs
 
 same-length-2 : tie.Need-same-length-2
-same-length-2 c = c .before .before .before .before .before .before .take-event .kept .1 .1 .1 .0
+same-length-2 c = search needs
 
 same-length-3 : tie.Need-same-length-3
-same-length-3 c = c .before .before .before .before .before .before .take-event .kept .1 .1 .1 .1 .1 .1 .0
+same-length-3 c = search needs
 
 returns : tie.Need-returns
 returns c =
@@ -26,11 +26,11 @@ returns c =
 records-in-requires : tie.Need-records-in-requires
 records-in-requires c κs = search needs
 
-mul-result : tie.Need-mul-result
-mul-result c = search needs
+mul-t19 : tie.Need-mul-t19
+mul-t19 c = search needs
 
-add-result : tie.Need-add-result
-add-result c = search needs
+add-t20 : tie.Need-add-t20
+add-t20 c = search needs
 
 returns-2 : tie.Need-returns-2
 returns-2 c = record { next-place = rw (c .records-in .ensures); taken = λ p. absurd (false≢true (sym (c .before .if1 .left) ∙ p)) }
@@ -45,6 +45,6 @@ pass-event-spec =
     same-length-3
     returns
     records-in-requires
-    mul-result
-    add-result
+    mul-t19
+    add-t20
     returns-2)

@@ -3,21 +3,21 @@ use Prim.Native.Nat.{_-_}
 use mathlib.Core.Path.{_≡_, refl, _∙_}
 use native.Mathlib.Omega.{arith}
 use lib.ListN.{length}
-use Rattle.run.specs.Reading.{world}
+use Rattle.run.specs.Reading.{worldOf}
 use Rattle.run.proofs.Running.{Running, running-begun, passing, running-on, running-ended}
 use Rattle.run.proofs.run_samples.Statement.{statement}
 use Rattle.run.proofs.run_samples.Tie as tie
 
 abbrev Inv-loop : tie.InvT-loop
-Inv-loop chip put map active₀ buffer₀ samples records₀ s₀ at₀ i₀ active buffer records s at i =
+Inv-loop chip put map active₀ buffer₀ samples records₀ port₀ armed₀ at₀ i₀ active buffer records port armed at i =
     ((length active ≡ length active₀) × (length buffer ≡ length buffer₀) × (length records ≡ length records₀))
-    × Running chip put map samples (world s₀ active₀ buffer₀) (world s active buffer) records₀ records at i
+    × Running chip put map samples (worldOf port₀ armed₀ active₀ buffer₀) (worldOf port armed active buffer) records₀ records at i
 
 abbrev μ-loop : tie.MeasureT-loop
-μ-loop chip put map active₀ buffer₀ samples records₀ s₀ at₀ i₀ active buffer records s at i = length samples - i
+μ-loop chip put map active₀ buffer₀ samples records₀ port₀ armed₀ at₀ i₀ active buffer records port armed at i = length samples - i
 
 loop-holds : tie.Need-loop-holds Inv-loop μ-loop
-loop-holds c = ((refl, refl, refl), running-begun (c .before .before .before .before .before .pre))
+loop-holds c = ((refl, refl, refl), running-begun (c .before .before .before .before .before .before .pre))
 
 next-event-requires : tie.Need-next-event-requires Inv-loop μ-loop
 next-event-requires c κs = (c .before .loop .inv .1 .counting .sound, c .loop-test .taken)
@@ -25,7 +25,7 @@ next-event-requires c κs = (c .before .loop .inv .1 .counting .sound, c .loop-t
 pass-event-requires : tie.Need-pass-event-requires Inv-loop μ-loop
 pass-event-requires c κs =
     passing (c .before .before .before .before .before .before .loop .inv .1) (c .before .before .before .before .next-event .ensures .path)
-    (c .before .before .before .before .before .before .before .before .before .before .before .before .pre .few)
+    (c .before .before .before .before .before .before .before .before .before .before .before .before .before .pre .few)
 
 loop-less : tie.Need-loop-less Inv-loop μ-loop
 loop-less c =
@@ -36,7 +36,7 @@ loop-again : tie.Need-loop-again Inv-loop μ-loop
 loop-again c =
     let k = c .before .before .before .before .before .before .before .before .before .before .before .before .before .before .loop .inv in
     let p = c .before .before .before .before .before .before .before .pass-event in (
-      (p .kept .1 .1 .1 .0 ∙ k .0 .0, p .kept .1 .1 .1 .1 .0 ∙ k .0 .1, p .kept .1 .1 .1 .1 .1 .1 .1 .0 ∙ k .0 .2),
+      (p .kept .1 .1 .1 .0 ∙ k .0 .0, p .kept .1 .1 .1 .1 .0 ∙ k .0 .1, p .kept .1 .1 .1 .1 .1 .1 .1 .1 .0 ∙ k .0 .2),
       running-on (k .1) (c .before .before .before .before .before .before .before .before .before .before .before .before .next-event .ensures .path) (p .ensures),
     )
 

@@ -55,10 +55,13 @@ shared-slice-read-result-13 c = search needs
 shared-slice-read-result-14 : tie.Need-shared-slice-read-result-14
 shared-slice-read-result-14 c = search needs
 
+shared-slice-read-result-15 : tie.Need-shared-slice-read-result-15
+shared-slice-read-result-15 c = search needs
+
 returns-2 : tie.Need-returns-2
 unfolding areSession every
 returns-2 c =
-    let start = c .before .before .before .before .before .before .before .before .before .before .before .before .before .before in
+    let start = c .before .before .before .before .before .before .before .before .before .before .before .before .before .before .before in
     let b = start .before .args .bytes .now in
     rw (eq-eqb (length b) sessionSize (start .if1 .left)) (joined-every true (fieldTests b))
 
@@ -81,4 +84,5 @@ are-session-spec =
     shared-slice-read-result-12
     shared-slice-read-result-13
     shared-slice-read-result-14
+    shared-slice-read-result-15
     returns-2)

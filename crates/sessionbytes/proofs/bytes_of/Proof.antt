@@ -5,26 +5,23 @@ use borrow.Author.Needs.{needs}
 use Rattle.sessionbytes.proofs.bytes_of.Statement.{statement}
 use Rattle.sessionbytes.proofs.bytes_of.Tie as tie
 
-cast-t3 : tie.Need-cast-t3
-cast-t3 c = search needs
-
 cast-t4 : tie.Need-cast-t4
 cast-t4 c = search needs
+
+cast-t5 : tie.Need-cast-t5
+cast-t5 c = search needs
 
 phase-byte-requires : tie.Need-phase-byte-requires
 phase-byte-requires c κs = search needs
 
-cast-t7 : tie.Need-cast-t7
-cast-t7 c = search needs
+cast-t8 : tie.Need-cast-t8
+cast-t8 c = search needs
 
-cast-t9 : tie.Need-cast-t9
-cast-t9 c = search needs
+cast-t10 : tie.Need-cast-t10
+cast-t10 c = search needs
 
-cast-t11 : tie.Need-cast-t11
-cast-t11 c = search needs
-
-cast-t13 : tie.Need-cast-t13
-cast-t13 c = search needs
+cast-t12 : tie.Need-cast-t12
+cast-t12 c = search needs
 
 cast-t14 : tie.Need-cast-t14
 cast-t14 c = search needs
@@ -56,21 +53,26 @@ cast-t22 c = search needs
 cast-t23 : tie.Need-cast-t23
 cast-t23 c = search needs
 
+cast-t24 : tie.Need-cast-t24
+cast-t24 c = search needs
+
+cast-t25 : tie.Need-cast-t25
+cast-t25 c = search needs
+
 returns : tie.Need-returns
 unfolding sessionBytes
-returns c = rw (c .before .before .before .before .before .before .before .before .before .before .before .before .before .before .phase-byte .ensures) (simp flag-byte)
+returns c = rw (c .before .before .before .before .before .before .before .before .before .before .before .before .before .before .before .phase-byte .ensures) (simp flag-byte)
 
 pub bytes-of-spec : {M : Type 1} → statement M
 bytes-of-spec =
     tie.close
     (tie.spec
-    cast-t3
     cast-t4
+    cast-t5
     phase-byte-requires
-    cast-t7
-    cast-t9
-    cast-t11
-    cast-t13
+    cast-t8
+    cast-t10
+    cast-t12
     cast-t14
     cast-t15
     cast-t16
@@ -81,4 +83,6 @@ bytes-of-spec =
     cast-t21
     cast-t22
     cast-t23
+    cast-t24
+    cast-t25
     returns)

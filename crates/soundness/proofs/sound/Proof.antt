@@ -1,79 +1,18 @@
--- `sound` meets its contract: by the phase, the tests of its list, joined.
-use mathlib.Core.Bool.{true}
-use mathlib.Core.Path.{ap, sym, _∙_}
-use Rattle.bits.specs.Tests.{every}
-use Rattle.bits.proofs.Cases.{joined-every}
-use Rattle.session.specs.declared.Phase.{Phase}
-use Rattle.session.specs.declared.Phase.the-variants.{Rest, Instruction, Data}
-use Rattle.session.specs.State.{soundTests, soundSession}
+-- `sound` meets its contract: both parts.
+use Rattle.session.specs.State.{soundSession}
 use borrow.Author.Needs.{needs}
 use Rattle.soundness.proofs.sound.Statement.{statement}
 use Rattle.soundness.proofs.sound.Tie as tie
 
-enum-told : tie.Need-enum-told
-enum-told c = search needs
+sound-port-requires : tie.Need-sound-port-requires
+sound-port-requires c κs = search needs
 
-is-newer-requires : tie.Need-is-newer-requires
-is-newer-requires c κs = search needs
-
-enum-told-2 : tie.Need-enum-told-2
-enum-told-2 c = search needs
-
-value-fits-requires : tie.Need-value-fits-requires
-value-fits-requires c κs = search needs
-
-enum-told-3 : tie.Need-enum-told-3
-enum-told-3 c = search needs
-
-may-stall-requires : tie.Need-may-stall-requires
-may-stall-requires c κs = search needs
-
-value-fits-requires-2 : tie.Need-value-fits-requires-2
-value-fits-requires-2 c κs = search needs
-
-length-good-requires : tie.Need-length-good-requires
-length-good-requires c κs = search needs
+may-arm-requires : tie.Need-may-arm-requires
+may-arm-requires c κs = search needs
 
 returns : tie.Need-returns
 unfolding soundSession
-returns c =
-    let n = c .before .before .before .before .before .before .before .before .before .before in
-    let b = n .before in
-    let a = b .before .before .args in
-    rw (n .is-newer .ensures)
-    (joined-every true (soundTests (a .chip) Rest (a .session)) ∙ ap (λ (p : Phase). every (soundTests (a .chip) p (a .session))) (sym (b .enum-told .given .1)))
-
-returns-2 : tie.Need-returns-2
-unfolding soundSession
-returns-2 c =
-    let v = c .before .before .before in
-    let b = v .before .before .before in
-    let a = b .before .before .args in
-    rw (v .value-fits .ensures)
-    (joined-every true (soundTests (a .chip) Instruction (a .session)) ∙ ap (λ (p : Phase). every (soundTests (a .chip) p (a .session))) (sym (b .enum-told2 .given .1)))
-
-returns-3 : tie.Need-returns-3
-unfolding soundSession
-returns-3 c =
-    let v = c .before .before in
-    let m = v .before .before in
-    let b = m .before .before in
-    let a = b .before .before .args in
-    rw (c .length-good .ensures, v .value-fits2 .ensures, m .may-stall .ensures)
-    (joined-every true (soundTests (a .chip) Data (a .session)) ∙ ap (λ (p : Phase). every (soundTests (a .chip) p (a .session))) (sym (b .enum-told3 .given .1)))
+returns c = rw (c .before .before .sound-port .ensures, c .may-arm .ensures)
 
 pub sound-spec : {M : Type 1} → statement M
-sound-spec =
-    tie.close
-    (tie.spec
-    enum-told
-    is-newer-requires
-    enum-told-2
-    value-fits-requires
-    enum-told-3
-    may-stall-requires
-    value-fits-requires-2
-    length-good-requires
-    returns
-    returns-2
-    returns-3)
+sound-spec = tie.close (tie.spec sound-port-requires may-arm-requires returns)

@@ -1,4 +1,4 @@
--- `byte_ahead` meets its contract: the session's tests, and then its samples.
+-- `byte_ahead` meets its contract: the port's tests, and then its samples.
 use borrow.Author.Needs.{needs}
 use mathlib.Core.Path.{sym, _∙_}
 use mathlib.Core.Bool.{false≢true}

@@ -12,7 +12,7 @@ line-of-requires : tie.Need-line-of-requires
 line-of-requires c κs = search needs
 
 gather-requires : tie.Need-gather-requires
-gather-requires c κs = (c .before .before .pre .clocked .within, rw (c .line-of .ensures) (line-lt (c .before .before .args .chip) (c .before .before .args .session)), omega arith)
+gather-requires c κs = (c .before .before .pre .clocked .within, rw (c .line-of .ensures) (line-lt (c .before .before .args .chip) (c .before .before .args .port)), omega arith)
 
 cast-byte : tie.Need-cast-byte
 cast-byte c =
@@ -27,7 +27,7 @@ returns c =
     let g = c .before in
     let l = g .before in
     let a = l .before .before .args in
-    rw (c .in-order .ensures, g .gather .ensures, l .line-of .ensures, gathered-in-order (a .samples .now) _ (a .from) (a .session .used .lsb))
+    rw (c .in-order .ensures, g .gather .ensures, l .line-of .ensures, gathered-in-order (a .samples .now) _ (a .from) (a .port .used .lsb))
 
 pub byte-event-spec : {M : Type 1} → statement M
 byte-event-spec = tie.close (tie.spec line-of-requires gather-requires cast-byte in-order-requires returns)

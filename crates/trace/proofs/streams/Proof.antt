@@ -16,7 +16,7 @@ last-of-requires c κs = search needs
 returns : tie.Need-returns
 returns c =
     rw (c .before .before .before .before .before .before .is-newer .ensures, c .before .before .before .before .before .last-of .ensures, last-data)
-    (joined-every true (streamTests (c .before .before .before .before .before .before .before .args .chip) (c .before .before .before .before .before .before .before .args .session)))
+    (joined-every true (streamTests (c .before .before .before .before .before .before .before .args .chip) (c .before .before .before .before .before .before .before .args .port)))
 
 pub streams-spec : {M : Type 1} → statement M
 streams-spec = tie.close (tie.spec is-newer-requires last-of-requires returns)

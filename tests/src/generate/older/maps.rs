@@ -1,6 +1,6 @@
 //! Maps of older chips, good ones and ones with an entry broken.
 
-use crate::generate::maps::{flagged_map_of, map_of};
+use crate::generate::maps::{in_any_version, map_of};
 use crate::generate::random::Random;
 use crate::second::older::{Older, Part};
 
@@ -28,10 +28,7 @@ pub fn simple_entries(older: Older) -> Vec<[u8; 3]> {
 /// A good map, all that the rules leave free at random, the version too.
 pub fn good_older_map(random: &mut Random, older: Older) -> Vec<u8> {
     let entries = good_older_entries(random, older);
-    match random.below(4) {
-        0 | 1 => map_of(&entries),
-        flagged => flagged_map_of(flagged as u8 - 2, &entries),
-    }
+    in_any_version(random, &entries)
 }
 
 pub fn good_older_entries(random: &mut Random, older: Older) -> Vec<[u8; 3]> {

@@ -33,6 +33,7 @@ pub fn sound_older_session(random: &mut Random, top: u64) -> Session {
                 settings,
                 in_use: any_usable(random),
                 left: random.between(1, if stalled { 3 } else { 4 }) as u8,
+                armed: false,
             }
         }
     }
@@ -81,16 +82,7 @@ pub fn unsound_older_sessions(top: u16) -> Vec<Session> {
         Session { address: 1, ..instruction },
         Session { read: true, ..instruction },
     ];
-    for still in [rest, passing] {
-        unsound.extend([
-            Session { bits: 1, ..still },
-            Session { value: 1, ..still },
-            Session { address: 1, ..still },
-            Session { address: 0x0100, ..still },
-            Session { read: true, ..still },
-        ]);
-        unsound.extend(USABLE.map(|in_use| Session { in_use, ..still }));
-    }
+    unsound.extend([rest, passing].into_iter().flat_map(not_still));
     for data in [stalled, counted, streaming] {
         let above = [top + 1, top + 2, 0x2000 + top, 0x4000, 0x7FFF, 0x8000, 0x8000 + top, 0xFFFF];
         unsound.extend(above.map(|address| Session { address, ..data }));
@@ -103,9 +95,25 @@ pub fn unsound_older_sessions(top: u16) -> Vec<Session> {
     unsound.extend(
         (1..=255).flat_map(|left| [rest, passing, instruction].map(|s| Session { left, ..s })),
     );
+    // A newer chip's: armed, in whatever case.
+    let sound = [rest, passing, instruction, stalled, counted, streaming];
+    unsound.extend(sound.map(|sound| Session { armed: true, ..sound }));
     unsound.extend((16..=255).map(|bits| Session { bits, ..instruction }));
     unsound.extend((0..16).map(|bits| Session { bits, value: 1 << bits, ..instruction }));
     unsound.extend((0..8).map(|bits| Session { bits, value: 1 << bits, ..counted }));
     unsound.extend((0..8).map(|bits| Session { bits, value: 1 << bits, ..streaming }));
+    unsound
+}
+
+/// A session at rest, or passing over, with something set that is zero there.
+fn not_still(still: Session) -> Vec<Session> {
+    let mut unsound = vec![
+        Session { bits: 1, ..still },
+        Session { value: 1, ..still },
+        Session { address: 1, ..still },
+        Session { address: 0x0100, ..still },
+        Session { read: true, ..still },
+    ];
+    unsound.extend(USABLE.map(|in_use| Session { in_use, ..still }));
     unsound
 }

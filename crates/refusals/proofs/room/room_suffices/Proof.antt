@@ -19,7 +19,7 @@ mul-if1 c = search needs
 returns : tie.Need-returns
 returns c =
     let a = c .before .before .args in
-    sym (le-leb (recordSize * recordCount (a .chip) (a .session) (a .samples .now)) (a .room) (omega (arith, records-bound (a .chip) (a .session) (a .samples .now), c .if1 .taken)))
+    sym (le-leb (recordSize * recordCount (a .chip) (a .session .port) (a .samples .now)) (a .room) (omega (arith, records-bound (a .chip) (a .session .port) (a .samples .now), c .if1 .taken)))
 
 count-records-requires : tie.Need-count-records-requires
 count-records-requires c κs = search needs
@@ -27,7 +27,7 @@ count-records-requires c κs = search needs
 mul-result : tie.Need-mul-result
 mul-result c =
     let a = c .before .before .before .args in
-    omega (arith, records-bound (a .chip) (a .session) (a .samples .now), c .count-records .ensures)
+    omega (arith, records-bound (a .chip) (a .session .port) (a .samples .now), c .count-records .ensures)
 
 returns-2 : tie.Need-returns-2
 returns-2 c = rw (c .count-records .ensures)

@@ -6,7 +6,7 @@ use mathlib.Core.Bool.{true}
 use native.Mathlib.Omega.{arith}
 use lib.ListN.{length}
 use Rattle.chip.specs.declared.Chip.{Chip}
-use Rattle.session.specs.State.{soundSession}
+use Rattle.session.specs.State.{soundPort}
 use Rattle.trace.specs.Piece.{Reached}
 use Rattle.words.proofs.Masks.{last-high}
 use Rattle.trace.proofs.Pieces.{piece, own, past-high}
@@ -14,10 +14,10 @@ use Rattle.trace.proofs.quiet.high.Statement.{statement}
 use Rattle.trace.proofs.quiet.high.Tie as tie
 
 abbrev Inv-loop : tie.InvT-loop
-Inv-loop session samples from level₀ at₀ level at = (k : Chip) → soundSession k session ≡ true → Reached k samples session from (piece level (session .bits) (session .value) at)
+Inv-loop port samples from level₀ at₀ level at = (k : Chip) → soundPort k port ≡ true → Reached k samples port from (piece level (port .bits) (port .value) at)
 
 abbrev μ-loop : tie.MeasureT-loop
-μ-loop session samples from level₀ at₀ level at = length samples - at
+μ-loop port samples from level₀ at₀ level at = length samples - at
 
 level-of-requires : tie.Need-level-of-requires Inv-loop μ-loop
 level-of-requires c κs = search needs

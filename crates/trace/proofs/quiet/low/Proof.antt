@@ -8,10 +8,10 @@ use Rattle.trace.proofs.quiet.low.Statement.{statement}
 use Rattle.trace.proofs.quiet.low.Tie as tie
 
 abbrev Inv-loop : tie.InvT-loop
-Inv-loop chip session samples from p₀ p = Reached chip samples session from p
+Inv-loop chip port samples from p₀ p = Reached chip samples port from p
 
 abbrev μ-loop : tie.MeasureT-loop
-μ-loop chip session samples from p₀ p = length samples - p .at
+μ-loop chip port samples from p₀ p = length samples - p .at
 
 past-bits-requires : tie.Need-past-bits-requires Inv-loop μ-loop
 past-bits-requires c κs = c .before .pre

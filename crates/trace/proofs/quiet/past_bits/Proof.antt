@@ -35,7 +35,7 @@ last-of-requires c κs = search needs
 gather-requires : tie.Need-gather-requires
 gather-requires c κs =
     let k = c .before .before .before .before .clocked .ensures (not-false _ (c .before .before .before .if2 .left)) in
-    (omega (arith, k .within), rw (c .before .before .line-of .ensures) (line-lt (c .before .before .before .before .before .before .before .before .before .args .chip) (c .before .before .before .before .before .before .before .before .before .args .session)), omega arith)
+    (omega (arith, k .within), rw (c .before .before .line-of .ensures) (line-lt (c .before .before .before .before .before .before .before .before .before .args .chip) (c .before .before .before .before .before .before .before .before .before .args .port)), omega arith)
 
 add-t13 : tie.Need-add-t13
 add-t13 c = search needs
@@ -67,7 +67,7 @@ clocked-requires-2 c κs =
 gather-requires-2 : tie.Need-gather-requires-2
 gather-requires-2 c κs =
     let k = c .before .clocked2 .ensures (c .if5 .taken) in
-    (omega (arith, k .within), rw (c .before .before .before .before .before .before .line-of .ensures) (line-lt (c .before .before .before .before .before .before .before .before .before .before .before .before .before .args .chip) (c .before .before .before .before .before .before .before .before .before .before .before .before .before .args .session)), omega arith)
+    (omega (arith, k .within), rw (c .before .before .before .before .before .before .line-of .ensures) (line-lt (c .before .before .before .before .before .before .before .before .before .before .before .before .before .args .chip) (c .before .before .before .before .before .before .before .before .before .before .before .before .before .args .port)), omega arith)
 
 add-t17 : tie.Need-add-t17
 add-t17 c = search needs
@@ -78,7 +78,7 @@ returns-5 c =
     let k = c .before .before .before .before .before .before .before .before .before .clocked .ensures (not-false _ (c .before .before .before .before .before .before .before .before .if2 .left)) in
     let l = c .before .before .clocked2 .ensures (c .before .if5 .taken) in
     let e : a .args .from + 2 * 15 + 1 ≡ a .args .from + 31 = omega arith in
-    let last : 15 ≡ lastOf (a .args .session .phase) = omega (arith, c .before .before .before .if4 .left, c .before .before .before .before .last-of2 .ensures) in
+    let last : 15 ≡ lastOf (a .args .port .phase) = omega (arith, c .before .before .before .if4 .left, c .before .before .before .before .last-of2 .ensures) in
     rw (c .gather2 .ensures, c .before .before .before .before .before .before .before .line-of .ensures, ← e)
     (bits-passed _ 15 (a .pre .0) (a .pre .1) (c .before .before .before .before .before .before .before .before .before .before .if1 .left) last (clocked-join 8 8 k l) (a .pre .2))
 

@@ -34,7 +34,7 @@ line-of-requires : tie.Need-line-of-requires
 line-of-requires c κs = search needs
 
 bit-at-requires : tie.Need-bit-at-requires
-bit-at-requires c κs = omega (arith, line-lt (c .before .before .before .before .before .before .before .before .before .before .before .args .chip) (c .before .before .before .before .before .before .before .before .before .before .before .args .session), c .line-of .ensures)
+bit-at-requires c κs = omega (arith, line-lt (c .before .before .before .before .before .before .before .before .before .before .before .args .chip) (c .before .before .before .before .before .before .before .before .before .before .before .args .port), c .line-of .ensures)
 
 add-t15 : tie.Need-add-t15
 add-t15 c = search needs

@@ -1,4 +1,4 @@
--- `Session::after_byte` meets its contract: the definition's tests in its order.
+-- `Port::after_byte` meets its contract: the definition's tests in its order.
 use Prim.Native.Nat.{ℕ, _-_}
 use mathlib.Core.Bool.{Bool, true, cond}
 use mathlib.Core.Path.{_≡_, refl, ap, sym, _∙_}
@@ -7,19 +7,19 @@ use Rattle.bits.proofs.Cases.{yes, no}
 use Rattle.settings.specs.declared.Settings.{Settings}
 use Rattle.settings.specs.declared.InUse.{InUse}
 use Rattle.settings.specs.Settings.{nextAddress}
-use Rattle.session.specs.declared.Session.{Session}
+use Rattle.session.specs.declared.Port.{Port}
 use Rattle.session.specs.State.{starting, inData, passing, isCounted}
 use Rattle.session.specs.Step.{usedOn, runEnds, afterByte}
 use borrow.Author.Needs.{needs}
-use Rattle.session.proofs.Session.after_byte.Statement.{statement}
-use Rattle.session.proofs.Session.after_byte.Tie as tie
+use Rattle.session.proofs.Port.after_byte.Statement.{statement}
+use Rattle.session.proofs.Port.after_byte.Tie as tie
 
 -- what comes after a byte, by the settings in use that count, whether the run ends, the next address and the bytes left
-abbrev afterBy : Session → Settings → InUse → Bool → ℕ → ℕ → Session
+abbrev afterBy : Port → Settings → InUse → Bool → ℕ → ℕ → Port
 afterBy s t u ends a l =
     cond (u .single) (starting true t) (cond ends (passing true t) (inData true 0 0 a (s .read) l t (s .used)))
 
-after-by : (k : Chip) (s : Session) (t : Settings) {u : InUse} {ends : Bool} {a l : ℕ}
+after-by : (k : Chip) (s : Port) (t : Settings) {u : InUse} {ends : Bool} {a l : ℕ}
     → u ≡ usedOn k s → ends ≡ runEnds k s → a ≡ nextAddress (u .ascending) (s .address) → l ≡ cond (isCounted (s .left)) (s .left - 1) (s .left)
     → afterBy s t u ends a l ≡ afterByte k s t
 after-by k s t {u} e f g h =

@@ -1,4 +1,4 @@
--- `Session::with_data_bit` meets its contract: the eighth bit makes a byte whole, and its value is below 256.
+-- `Port::with_data_bit` meets its contract: the eighth bit makes a byte whole, and its value is below 256.
 use Prim.Native.Nat.{ℕ, _+_}
 use mathlib.Core.Bool.{Bool, true, cond}
 use mathlib.Core.Path.{_≡_, refl, ap, sym, _∙_}
@@ -8,20 +8,20 @@ use borrow.Author.Tests.{lt-ltb, le-ltb, le-leb, lt-leb, eq-eqb, ne-eqb, leb-tru
 use Rattle.bits.proofs.Cases.{yes, no}
 use Rattle.chip.specs.declared.Chip.{Chip}
 use Rattle.settings.specs.declared.Settings.{Settings}
-use Rattle.session.specs.declared.Session.{Session}
+use Rattle.session.specs.declared.Port.{Port}
 use Rattle.session.specs.State.{inData, isData}
 use Rattle.session.specs.Step.{valueWith, settingsOnByte, afterByte, withDataBit}
 use Rattle.session.proofs.Laws.{byte-lt, room-for-bit}
 use borrow.Author.Needs.{needs}
-use Rattle.session.proofs.Session.with_data_bit.Statement.{statement}
-use Rattle.session.proofs.Session.with_data_bit.Tie as tie
+use Rattle.session.proofs.Port.with_data_bit.Statement.{statement}
+use Rattle.session.proofs.Port.with_data_bit.Tie as tie
 
 -- s with one more bit, by the value that it makes, and the settings after a whole byte
-abbrev bitBy : Chip → Session → ℕ → Settings → Session
+abbrev bitBy : Chip → Port → ℕ → Settings → Port
 bitBy k s v t =
     cond (ltb (s .bits) 7) (inData true (s .bits + 1) v (s .address) (s .read) (s .left) (s .settings) (s .used)) (afterByte k s t)
 
-bit-by : (k : Chip) (s : Session) (b : Bool) {v : ℕ} {t : Settings} → v ≡ valueWith s b → t ≡ settingsOnByte k s v → bitBy k s v t ≡ withDataBit k s b
+bit-by : (k : Chip) (s : Port) (b : Bool) {v : ℕ} {t : Settings} → v ≡ valueWith s b → t ≡ settingsOnByte k s v → bitBy k s v t ≡ withDataBit k s b
 unfolding withDataBit
 bit-by k s b e f =
     let h = f ∙ ap (settingsOnByte k s) e in

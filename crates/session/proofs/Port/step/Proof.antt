@@ -1,4 +1,4 @@
--- `Session::step` meets its contract: the definition's tests in its order, on a session that has the sample's levels already.
+-- `Port::step` meets its contract: the definition's tests in its order, on a session that has the sample's levels already.
 use Prim.Native.Nat.{ℕ}
 use lib.Dec.{eqb}
 use mathlib.Core.Bool.{Bool, cond, not, _&&_}
@@ -7,15 +7,15 @@ use Rattle.bits.proofs.Cases.{yes, no}
 use Rattle.chip.specs.declared.Chip.{Chip}
 use Rattle.settings.specs.declared.InUse.{InUse}
 use Rattle.session.specs.declared.Phase.{Phase}
-use Rattle.session.specs.declared.Session.{Session}
+use Rattle.session.specs.declared.Port.{Port}
 use Rattle.session.specs.State.{resting, starting, withLevels, isData, mayStall}
 use Rattle.session.specs.Step.{csbOf, sclkOf, sdioOf, sdoOf, takesBit, withInstructionBit, withDataBit, withBit, stepOf}
 use borrow.Author.Needs.{needs}
-use Rattle.session.proofs.Session.step.Statement.{statement}
-use Rattle.session.proofs.Session.step.Tie as tie
+use Rattle.session.proofs.Port.step.Statement.{statement}
+use Rattle.session.proofs.Port.step.Tie as tie
 
 -- s with the levels as the last ones
-abbrev leveled : Session → Bool → Bool → Session
+abbrev leveled : Port → Bool → Bool → Port
 leveled s csb sclk = record {
   csb = csb;
   sclk = sclk;
@@ -30,14 +30,14 @@ leveled s csb sclk = record {
 }
 
 -- the step of s, by whether it takes a bit, the levels of its sample, and whether s may stall
-abbrev stepBy : Chip → Session → ℕ → Bool → Bool → Bool → Bool → Session
+abbrev stepBy : Chip → Port → ℕ → Bool → Bool → Bool → Bool → Port
 stepBy k s x takes csb sclk stalls =
     cond ((s .csb && not csb) && eqb (s .left) 0) (starting sclk (s .settings))
     (cond takes (withBit k (s .phase) s x)
     (cond ((not (s .csb) && csb) && not stalls) (resting sclk (s .settings))
     (leveled s csb sclk)))
 
-step-by : (k : Chip) (s : Session) (x : ℕ) {takes csb sclk stalls : Bool} → takes ≡ takesBit s x → csb ≡ csbOf x → sclk ≡ sclkOf x
+step-by : (k : Chip) (s : Port) (x : ℕ) {takes csb sclk stalls : Bool} → takes ≡ takesBit s x → csb ≡ csbOf x → sclk ≡ sclkOf x
     → stalls ≡ mayStall s → stepBy k s x takes csb sclk stalls ≡ stepOf k s x
 unfolding stepOf
 step-by k s x d e f h = λ i. stepBy k s x (d i) (e i) (f i) (h i)

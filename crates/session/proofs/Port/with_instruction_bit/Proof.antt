@@ -1,4 +1,4 @@
--- `Session::with_instruction_bit` meets its contract: the sixteenth bit makes the instruction whole.
+-- `Port::with_instruction_bit` meets its contract: the sixteenth bit makes the instruction whole.
 use Prim.Native.Nat.{ℕ, _+_}
 use mathlib.Core.Bool.{Bool, true, cond}
 use mathlib.Core.Path.{_≡_, ap, _∙_}
@@ -6,21 +6,21 @@ use lib.Dec.{ltb}
 use borrow.Author.Tests.{lt-ltb, le-ltb}
 use Rattle.bits.proofs.Cases.{yes, no}
 use Rattle.chip.specs.declared.Chip.{Chip}
-use Rattle.session.specs.declared.Session.{Session}
+use Rattle.session.specs.declared.Port.{Port}
 use Rattle.session.specs.State.{instructing}
 use Rattle.session.specs.Step.{valueWith, entered, withInstructionBit}
 use Rattle.session.proofs.Laws.{room-for-bit}
 use borrow.Author.Needs.{needs}
-use Rattle.session.proofs.Session.with_instruction_bit.Statement.{statement}
-use Rattle.session.proofs.Session.with_instruction_bit.Tie as tie
+use Rattle.session.proofs.Port.with_instruction_bit.Statement.{statement}
+use Rattle.session.proofs.Port.with_instruction_bit.Tie as tie
 
 -- s with one more bit, by the value that it makes
-abbrev bitBy : Chip → Session → ℕ → Session
+abbrev bitBy : Chip → Port → ℕ → Port
 bitBy k s v =
     cond (ltb (s .bits) 15) (instructing true (s .bits + 1) v (s .settings) (s .used))
     (entered k v (s .settings) (s .used))
 
-bit-by : (k : Chip) (s : Session) (b : Bool) {v : ℕ} → v ≡ valueWith s b → bitBy k s v ≡ withInstructionBit k s b
+bit-by : (k : Chip) (s : Port) (b : Bool) {v : ℕ} → v ≡ valueWith s b → bitBy k s v ≡ withInstructionBit k s b
 unfolding withInstructionBit
 bit-by k s b e = ap (bitBy k s) e
 
