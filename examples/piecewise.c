@@ -17,6 +17,7 @@ static uint8_t map[MOST_MAP + 1];
 static size_t map_length;
 static couplingnut_session session;
 static uint8_t active[8192], buffer[8192];
+static uint64_t words[COUPLINGNUT_MOST_WORDS];
 static size_t registers;
 
 /* Ends the program where a call was refused. */
@@ -45,8 +46,9 @@ static void read_piece(const uint8_t *samples, size_t length, unsigned long firs
     size_t at;
 
     for (at = 0; at < length; at += (size_t)taken) {
-        accept(couplingnut_next_record(map, map_length, &session, active, registers, buffer, registers, samples + at, length - at, record,
-                                       sizeof record, &count, &taken));
+        accept(couplingnut_next_record(map, map_length, &session, active, registers, buffer, registers, words,
+                                       COUPLINGNUT_TOUCHED_WORDS(registers), samples + at, length - at, record, sizeof record, &count,
+                                       &taken));
         if (count == 1) {
             printf("%lu: %c %02X%02X %02X %02X %u %02X\n", first + (unsigned long)(at + taken), "?WRC"[record[0]], record[1], record[2],
                    record[3], record[4], record[5], record[6]);

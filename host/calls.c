@@ -267,6 +267,7 @@ struct recording {
     uint8_t active[16];
     uint8_t buffer[16];
     uint8_t records[20];
+    uint64_t words[1];
     uint64_t count;
     uint64_t taken;
 };
@@ -279,14 +280,14 @@ static uint32_t open_map(struct recording *r)
 
 static uint32_t read_into(struct recording *r, const uint8_t *samples, size_t length, size_t room)
 {
-    return couplingnut_read(map, sizeof map, &r->session, r->active, sizeof r->active, r->buffer, sizeof r->buffer, samples,
-                            length, r->records, room, &r->count);
+    return couplingnut_read(map, sizeof map, &r->session, r->active, sizeof r->active, r->buffer, sizeof r->buffer,
+                            r->words, 1, samples, length, r->records, room, &r->count);
 }
 
 static uint32_t next_into(struct recording *r, const uint8_t *samples, size_t length, size_t room)
 {
     return couplingnut_next_record(map, sizeof map, &r->session, r->active, sizeof r->active, r->buffer, sizeof r->buffer,
-                                   samples, length, r->records, room, &r->count, &r->taken);
+                                   r->words, 1, samples, length, r->records, room, &r->count, &r->taken);
 }
 
 /* The samples of a write of 0x3C and 0x5A to 0x000A and 0x0009, and the records of it: 0x0009 has mask 0, so no bit moves. */
@@ -352,6 +353,26 @@ static void flag_map(uint8_t *flagged, size_t room)
     memcpy(flagged + 6 + 3 * 0x09, buffered, sizeof buffered);
 }
 
+/* Which registers were touched, through the reader. */
+static void check_touched_by_reading(void)
+{
+    uint8_t samples[100];
+    struct recording r;
+    struct recording before;
+    size_t length = two_bytes(samples, sizeof samples);
+
+    open_map(&r);
+    check(couplingnut_touched_mark(r.words, 1) == COUPLINGNUT_DONE &&
+              read_into(&r, samples, length, sizeof r.records) == COUPLINGNUT_DONE && r.words[0] == 0x600,
+          "a write to 0x000A and 0x0009 touches just these, also where no bit moves");
+    before = r;
+    before.count = 0;
+    check(couplingnut_read(map, sizeof map, &r.session, r.active, 16, r.buffer, 16, r.words, 0, samples, length, r.records,
+                           sizeof r.records, &r.count) == COUPLINGNUT_BAD_WORDS &&
+              memcmp(&r, &before, sizeof r) == 0,
+          "no words for sixteen registers are refused 16, and all is as it was");
+}
+
 static void check_rise(void)
 {
     static const uint8_t data[1] = {0x22};
@@ -365,16 +386,16 @@ static void check_rise(void)
     check(couplingnut_send(COUPLINGNUT_WRITE, 0, 0x0009, 1, data, 1, samples, sizeof samples, &count) == COUPLINGNUT_DONE &&
               couplingnut_open(flagged, sizeof flagged, &r.session, r.active, 16, r.buffer, 16) == COUPLINGNUT_DONE,
           "a write to a buffered register is sent, and the flagged map is opened");
-    check(couplingnut_read(flagged, sizeof flagged, &r.session, r.active, 16, r.buffer, 16, samples, 50, r.records,
+    check(couplingnut_read(flagged, sizeof flagged, &r.session, r.active, 16, r.buffer, 16, r.words, 1, samples, 50, r.records,
                            sizeof r.records, &r.count) == COUPLINGNUT_DONE &&
               r.count == 1 && r.session.bytes[20] == 1 && r.active[0x09] == 0x11 && r.buffer[0x09] == 0x22,
           "before the select rises the session is armed, and the value waits");
-    check(couplingnut_read(flagged, sizeof flagged, &r.session, r.active, 16, r.buffer, 16, samples + 50, 1, r.records,
+    check(couplingnut_read(flagged, sizeof flagged, &r.session, r.active, 16, r.buffer, 16, r.words, 1, samples + 50, 1, r.records,
                            sizeof r.records, &r.count) == COUPLINGNUT_DONE &&
               r.count == 0 && r.session.bytes[20] == 0 && r.active[0x09] == 0x22,
           "as it rises the value comes in force, without a record");
     r.session.bytes[20] = 1;
-    check(couplingnut_read(flagged, sizeof flagged, &r.session, r.active, 16, r.buffer, 16, samples, 51, r.records,
+    check(couplingnut_read(flagged, sizeof flagged, &r.session, r.active, 16, r.buffer, 16, r.words, 1, samples, 51, r.records,
                            sizeof r.records, &r.count) == COUPLINGNUT_BAD_SESSION,
           "a session that is armed at rest is refused 1");
 }
@@ -547,7 +568,7 @@ static uint32_t open_older(struct recording *r, uint64_t top)
 static uint32_t read_older(struct recording *r, uint64_t top, const uint8_t *samples, size_t length)
 {
     return couplingnut_read_ad9508(top, older_map, sizeof older_map, &r->session, r->active, sizeof r->active, r->buffer,
-                                   sizeof r->buffer, samples, length, r->records, sizeof r->records, &r->count);
+                                   sizeof r->buffer, r->words, 1, samples, length, r->records, sizeof r->records, &r->count);
 }
 
 static void check_older_map(void)
@@ -594,7 +615,7 @@ static void check_stall(void)
     check(read_older(&r, TOP + 1, samples, 1) == COUPLINGNUT_BAD_TOP && memcmp(&r, &before, sizeof r) == 0,
           "another top is refused 12, and all is as it was");
     check(couplingnut_next_record_ad9508(TOP, older_map, sizeof older_map, &r.session, r.active, sizeof r.active, r.buffer,
-                                         sizeof r.buffer, samples + 48, 19, r.records, sizeof r.records, &r.count,
+                                         sizeof r.buffer, r.words, 1, samples + 48, 19, r.records, sizeof r.records, &r.count,
                                          &r.taken) == COUPLINGNUT_DONE &&
               r.count == 1 && r.taken == 17 && memcmp(r.records, records + 7, 7) == 0,
           "the select falls, and the run goes on");
@@ -615,19 +636,103 @@ static void check_older_refusals(void)
           "a bank of 15 bytes is refused 4, before 12");
     check(open_older(&r, TOP + 1) == COUPLINGNUT_BAD_TOP && r.active[0] == PATTERN, "a wrong top is refused 12");
     open_older(&r, TOP);
-    check(couplingnut_read_ad9557(TOP, older_map, sizeof older_map, &r.session, r.active, 16, r.buffer, 16,
+    check(couplingnut_read_ad9557(TOP, older_map, sizeof older_map, &r.session, r.active, 16, r.buffer, 16, r.words, 1,
                                   (const uint8_t *)"\1", 1, r.records, 0, &r.count) == COUPLINGNUT_BAD_MAP_ENTRY &&
-              couplingnut_next_record_ad9557(TOP, older_map, sizeof older_map, &r.session, r.active, 16, r.buffer, 16,
+              couplingnut_next_record_ad9557(TOP, older_map, sizeof older_map, &r.session, r.active, 16, r.buffer, 16, r.words, 1,
                                              (const uint8_t *)"\1", 1, r.records, 0, &r.count,
                                              &r.taken) == COUPLINGNUT_BAD_MAP_ENTRY,
           "reading as the other part is refused 3");
 }
 
-/* No call of this library gives these. */
-static int not_given(uint32_t number)
+/* As many words as may be lent, and one more. */
+static uint64_t touched[COUPLINGNUT_MOST_WORDS + 1];
+
+/* Sets the bits of these addresses in so many words, and no other; the words after them have every bit set. */
+static void touch_only(size_t words, const uint16_t *addresses, size_t count)
 {
-    return number == 16 || number == 17;
+    size_t i;
+
+    memset(touched, 0xFF, sizeof touched);
+    memset(touched, 0, words * sizeof touched[0]);
+    for (i = 0; i < count; i++) {
+        touched[addresses[i] / 64] |= (uint64_t)1 << addresses[i] % 64;
+    }
 }
+
+/* How many bits of so many words are set, by the library; UINT64_MAX if it refuses. */
+static uint64_t touched_count(size_t words)
+{
+    uint64_t count = 12345;
+
+    return couplingnut_touched_count(touched, words, &count) == COUPLINGNUT_DONE ? count : UINT64_MAX;
+}
+
+/* The next one from an address on, the same way. */
+static uint64_t touched_next(size_t words, uint64_t from)
+{
+    uint64_t address = 12345;
+
+    return couplingnut_touched_next(touched, words, from, &address) == COUPLINGNUT_DONE ? address : UINT64_MAX;
+}
+
+static void check_touched(void)
+{
+    static const uint16_t addresses[] = {0, 5, 63, 64, 200, 8191};
+    const size_t most = COUPLINGNUT_MOST_WORDS;
+
+    touch_only(most, addresses, 6);
+    check(touched_count(most) == 6, "six touched registers are counted");
+    check(touched_next(most, 0) == 0 && touched_next(most, 1) == 5 && touched_next(most, 5) == 5 && touched_next(most, 6) == 63,
+          "the next one in a word is found, the start included");
+    check(touched_next(most, 64) == 64 && touched_next(most, 65) == 200 && touched_next(most, 201) == 8191,
+          "the next one in a later word is found");
+    check(touched_next(most, 8191) == 8191 && touched_next(most, 8192) == 8192 && touched_next(most, UINT64_MAX) == 8192,
+          "past the last there is none: 64 times the number of words");
+    check(touched_count(4) == 5 && touched_next(4, 201) == 256, "words after those that are lent are not looked at");
+    check(touched_count(0) == 0 && touched_next(0, 0) == 0 && touched_next(0, 1) == 0, "no words have no touched register");
+    touch_only(2, addresses, 0);
+    check(touched_count(2) == 0 && touched_next(2, 0) == 128, "untouched words have none either");
+    touch_only(0, addresses, 0);
+    check(touched_count(most) == 8192, "words with every bit set have 8,192");
+}
+
+/* Whether a mark clears so many words, and leaves those after them with every bit set. */
+static int marked(size_t words)
+{
+    size_t i;
+    int as_said = couplingnut_touched_mark(touched, words) == COUPLINGNUT_DONE;
+
+    for (i = 0; i < sizeof touched / sizeof touched[0]; i++) {
+        as_said = as_said && touched[i] == (i < words ? 0 : UINT64_MAX);
+    }
+    return as_said;
+}
+
+static void check_mark(void)
+{
+    uint64_t told = 12345;
+    uint64_t before[COUPLINGNUT_MOST_WORDS + 1];
+
+    touch_only(0, NULL, 0);
+    memcpy(before, touched, sizeof before);
+    check(couplingnut_touched_mark(touched, COUPLINGNUT_MOST_WORDS + 1) == COUPLINGNUT_BAD_WORDS &&
+              memcmp(touched, before, sizeof before) == 0,
+          "a mark of 129 words is refused 16, and they are as they were");
+    check(couplingnut_touched_count(touched, COUPLINGNUT_MOST_WORDS + 1, &told) == COUPLINGNUT_BAD_WORDS && told == 0,
+          "a count of 129 words is refused 16, and tells 0");
+    told = 12345;
+    check(couplingnut_touched_next(touched, COUPLINGNUT_MOST_WORDS + 1, 7, &told) == COUPLINGNUT_BAD_WORDS && told == 0,
+          "a search in 129 words is refused 16, and tells 0");
+    check(marked(0), "a mark of no words clears nothing");
+    check(marked(2), "a mark of two words clears them, and no other");
+    check(marked(COUPLINGNUT_MOST_WORDS), "a mark of 128 words clears them all");
+    check(COUPLINGNUT_TOUCHED_WORDS(63) == 1 && COUPLINGNUT_TOUCHED_WORDS(64) == 1 && COUPLINGNUT_TOUCHED_WORDS(65) == 2 &&
+              COUPLINGNUT_TOUCHED_WORDS(8192) == COUPLINGNUT_MOST_WORDS,
+          "a word is for 64 registers");
+}
+
+/* No call of this library gives it. */
+enum { NOT_GIVEN = 17 };
 
 static void check_words(void)
 {
@@ -637,7 +742,7 @@ static void check_words(void)
     int unlike = 1;
 
     for (i = 0; i <= 19; i++) {
-        if (not_given(i)) {
+        if (i == NOT_GIVEN) {
             continue;
         }
         unlike = unlike && strcmp(couplingnut_message(i), none) != 0;
@@ -653,6 +758,7 @@ int main(void)
 {
     check_open();
     check_read();
+    check_touched_by_reading();
     check_rise();
     check_next();
     check_convert();
@@ -665,6 +771,8 @@ int main(void)
     check_frames();
     check_registers();
     check_many_registers();
+    check_touched();
+    check_mark();
     check_older_send();
     check_older_map();
     check_stall();

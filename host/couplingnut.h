@@ -13,12 +13,13 @@
  *
  *     couplingnut_session session;
  *     uint8_t active[16], buffer[16];    (a byte for each register of the map)
+ *     uint64_t words[1] = {0};           (a bit for each register: those that were touched)
  *     uint8_t records[COUPLINGNUT_RECORDS_SIZE(4096)];
  *     uint64_t count;
  *
  *     couplingnut_open(map, map_length, &session, active, 16, buffer, 16);
  *     for each piece of at most 4,096 samples:
- *         couplingnut_read(map, map_length, &session, active, 16, buffer, 16, piece, piece_length,
+ *         couplingnut_read(map, map_length, &session, active, 16, buffer, 16, words, 1, piece, piece_length,
  *                          records, sizeof records, &count);
  *         (`count` records of 7 bytes stand at the start of `records`)
  *
@@ -94,6 +95,7 @@ enum couplingnut_number {
     COUPLINGNUT_FLAG_LOST = 13,         /* a map with a flag set has no version 1 */
     COUPLINGNUT_BAD_LIST = 14,          /* a list ends inside an order, or has one of another form, or more than 64 */
     COUPLINGNUT_LONG_SETUP = 15,        /* the orders of a list give more than 65,536 samples in total */
+    COUPLINGNUT_BAD_WORDS = 16,         /* the words of touched registers: for a reader not n / 64 rounded up; for their own calls more than 128 */
     COUPLINGNUT_BAD_PRODUCT = 18,       /* the product number of a map to be mended is 0x0000 or 0xFFFF */
     COUPLINGNUT_BAD_REGISTERS = 19      /* no register or more than 1,000, not strictly rising, one above 0x7FFF or a control
                                            register, or another number of bytes than addresses */
@@ -164,17 +166,21 @@ enum { COUPLINGNUT_MOST_ORDERS = 64, COUPLINGNUT_MOST_SETUP = 65536 };
 enum { COUPLINGNUT_MOST_REGISTERS = 1000 };
 #define COUPLINGNUT_FRAMES_SIZE(registers) (COUPLINGNUT_LISTED_SIZE(1) * (registers))
 
+/* How many words have a bit for each of so many registers, and for the most that a map can have. */
+#define COUPLINGNUT_TOUCHED_WORDS(registers) (((registers) + 63) / 64)
+enum { COUPLINGNUT_MOST_WORDS = 128 };
+
 /*
  * What the library exports.
  *
  * The caller owes, for each call:
- *   - Each pointer with a length after it points to as many bytes, or addresses, as the length says. It is not null, also where
- *     that length is 0. Addresses are aligned as their type asks.
- *   - session points to a session, and count, taken, samples and length to a number each. They are not null.
+ *   - Each pointer with a length after it points to as many bytes, addresses or words as the length says. It is not null, also where
+ *     that length is 0. Addresses and words are aligned as their type asks.
+ *   - session points to a session, and count, taken, samples, length and address to a number each. They are not null.
  *   - What isn't const overlaps nothing else that is passed, and nobody else uses it during the call; nobody writes what is.
  * Nothing else: every value of every byte and number is allowed, and tested before it is cut to a smaller type.
  *
- * A refusal (any number but 0) puts 0 in *count, *taken, *samples and *length, and leaves all else that was lent as it was.
+ * A refusal (any number but 0) puts 0 in *count, *taken, *samples, *length and *address, and leaves all else that was lent as it was.
  * Only opening puts the opened session into *session even then.
  */
 
@@ -210,25 +216,27 @@ uint32_t couplingnut_open(const uint8_t *map, size_t map_length, couplingnut_ses
                           size_t active_length, uint8_t *buffer, size_t buffer_length);
 
 /*
- * Reads samples, which go on from *session: 0, or 1 to 6. *session and the banks become what the samples lead to. The records
+ * Reads samples, which go on from *session: 0, or 1 to 6, or 16, which comes after 4. *session and the banks become what the samples
+ * lead to, and each register that is written gets its bit in the words, COUPLINGNUT_TOUCHED_WORDS(n) of them (see the mark). The records
  * stand at the start of `records` in order of time, and *count says how many; the rest of it is unchanged. A recording may be
  * cut into pieces anywhere.
  */
 COUPLINGNUT_NOT_NULL
 uint32_t couplingnut_read(const uint8_t *map, size_t map_length, couplingnut_session *session, uint8_t *active,
-                          size_t active_length, uint8_t *buffer, size_t buffer_length, const uint8_t *samples,
-                          size_t samples_length, uint8_t *records, size_t records_length, uint64_t *count);
+                          size_t active_length, uint8_t *buffer, size_t buffer_length, uint64_t *words,
+                          size_t words_length, const uint8_t *samples, size_t samples_length, uint8_t *records,
+                          size_t records_length, uint64_t *count);
 
 /*
- * Reads samples up to and with the first that gives a record, or all of them: 0, or 1 to 6. It leaves what couplingnut_read of
+ * Reads samples up to and with the first that gives a record, or all of them: 0, or 1 to 6, or 16. It leaves what couplingnut_read of
  * just those samples leaves; *count is 0 or 1, and *taken says how many samples were read. With *count 1 the record stands at
  * sample *taken - 1, and the next call goes on at sample *taken. Number 5 looks at all samples handed in, 6 at the one record.
  */
 COUPLINGNUT_NOT_NULL
 uint32_t couplingnut_next_record(const uint8_t *map, size_t map_length, couplingnut_session *session, uint8_t *active,
-                                 size_t active_length, uint8_t *buffer, size_t buffer_length, const uint8_t *samples,
-                                 size_t samples_length, uint8_t *records, size_t records_length, uint64_t *count,
-                                 uint64_t *taken);
+                                 size_t active_length, uint8_t *buffer, size_t buffer_length, uint64_t *words,
+                                 size_t words_length, const uint8_t *samples, size_t samples_length, uint8_t *records,
+                                 size_t records_length, uint64_t *count, uint64_t *taken);
 
 /* Puts the samples of an order at the start of out, their count in *samples: 0, or 7 to 11. The rest of out is unchanged. */
 COUPLINGNUT_NOT_NULL
@@ -280,26 +288,26 @@ uint32_t couplingnut_open_ad9508(uint64_t top, const uint8_t *map, size_t map_le
 COUPLINGNUT_NOT_NULL
 uint32_t couplingnut_read_ad9557(uint64_t top, const uint8_t *map, size_t map_length, couplingnut_session *session,
                                  uint8_t *active, size_t active_length, uint8_t *buffer, size_t buffer_length,
-                                 const uint8_t *samples, size_t samples_length, uint8_t *records, size_t records_length,
-                                 uint64_t *count);
+                                 uint64_t *words, size_t words_length, const uint8_t *samples, size_t samples_length,
+                                 uint8_t *records, size_t records_length, uint64_t *count);
 
 COUPLINGNUT_NOT_NULL
 uint32_t couplingnut_read_ad9508(uint64_t top, const uint8_t *map, size_t map_length, couplingnut_session *session,
                                  uint8_t *active, size_t active_length, uint8_t *buffer, size_t buffer_length,
-                                 const uint8_t *samples, size_t samples_length, uint8_t *records, size_t records_length,
-                                 uint64_t *count);
+                                 uint64_t *words, size_t words_length, const uint8_t *samples, size_t samples_length,
+                                 uint8_t *records, size_t records_length, uint64_t *count);
 
 COUPLINGNUT_NOT_NULL
 uint32_t couplingnut_next_record_ad9557(uint64_t top, const uint8_t *map, size_t map_length, couplingnut_session *session,
                                         uint8_t *active, size_t active_length, uint8_t *buffer, size_t buffer_length,
-                                        const uint8_t *samples, size_t samples_length, uint8_t *records,
-                                        size_t records_length, uint64_t *count, uint64_t *taken);
+                                        uint64_t *words, size_t words_length, const uint8_t *samples, size_t samples_length,
+                                        uint8_t *records, size_t records_length, uint64_t *count, uint64_t *taken);
 
 COUPLINGNUT_NOT_NULL
 uint32_t couplingnut_next_record_ad9508(uint64_t top, const uint8_t *map, size_t map_length, couplingnut_session *session,
                                         uint8_t *active, size_t active_length, uint8_t *buffer, size_t buffer_length,
-                                        const uint8_t *samples, size_t samples_length, uint8_t *records,
-                                        size_t records_length, uint64_t *count, uint64_t *taken);
+                                        uint64_t *words, size_t words_length, const uint8_t *samples, size_t samples_length,
+                                        uint8_t *records, size_t records_length, uint64_t *count, uint64_t *taken);
 
 /*
  * Sends an order to an older chip; the samples are the same for either part: 0, 12, or 7, 8, 9 or 11. `settings` is 0, or
@@ -309,6 +317,23 @@ uint32_t couplingnut_next_record_ad9508(uint64_t top, const uint8_t *map, size_t
 COUPLINGNUT_NOT_NULL
 uint32_t couplingnut_send_older(uint64_t top, uint64_t direction, uint64_t settings, uint64_t start, uint64_t count,
                                 const uint8_t *data, size_t data_length, uint8_t *out, size_t out_length, uint64_t *samples);
+
+/*
+ * The touched registers are kept as a bit each in words that the caller lends: address a is bit a mod 64, from the lowest, of word
+ * a / 64. These calls take any number of words up to 128, and all bits of them, whatever registers a map has: 0, or 16 for more words.
+ *
+ * A mark clears every bit.
+ */
+COUPLINGNUT_NOT_NULL
+uint32_t couplingnut_touched_mark(uint64_t *words, size_t words_length);
+
+/* Puts how many bits are set in *count. */
+COUPLINGNUT_NOT_NULL
+uint32_t couplingnut_touched_count(const uint64_t *words, size_t words_length, uint64_t *count);
+
+/* Puts the first address from `from` on, that one included, whose bit is set in *address, or 64 times the number of words if none is. */
+COUPLINGNUT_NOT_NULL
+uint32_t couplingnut_touched_next(const uint64_t *words, size_t words_length, uint64_t from, uint64_t *address);
 
 /* What a number says and what to do, in words, for those listed above; never null. Its code is host/message.c. */
 const char *couplingnut_message(uint32_t number);

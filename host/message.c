@@ -32,7 +32,8 @@ static const char *const messages[] = {
     "the list ends inside an order, an order of it has a length below 6 or another version than 1, or there are more than 64; "
     "write the lengths again, or cut the list in two",
     "the orders give more than 65,536 samples in total; cut the list in two",
-    not_given,
+    "the words for touched registers are not as many as the map needs, or more than 128; lend as many as it has registers, divided by "
+    "64 and rounded up",
     not_given,
     "the product number of the map is 0x0000 or 0xFFFF, which mending can't guess; put the right one at 0x0004 (low byte) and 0x0005",
     "the list has no register or more than 1,000, they do not rise, one is above 0x7FFF or a control register, or there is not a byte "

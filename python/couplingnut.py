@@ -25,11 +25,13 @@ COUPLINGNUT_LIBRARY names another one.
 """
 import ctypes
 import os
+from array import array
 from typing import NamedTuple
 
 __all__ = ['PARTS', 'Altered', 'Record', 'Refused', 'Session', 'Settings', 'SettingsInUse', 'banks', 'cut_orders', 'fewest_frames',
            'listed', 'map_test', 'mend', 'message', 'next_record', 'open', 'read', 'send', 'send_setup', 'to_version_1', 'to_version_2',
-           'WRITE', 'READ', 'LSB_FIRST', 'ASCENDING', 'SINGLE_INSTRUCTION', 'STREAMS']
+           'touched', 'touched_count', 'touched_mark', 'touched_next', 'touched_words', 'WRITE', 'READ', 'LSB_FIRST', 'ASCENDING',
+           'SINGLE_INSTRUCTION', 'STREAMS']
 
 # The direction of an order, and what its settings number is the sum of.
 WRITE, READ = 0, 1
@@ -65,7 +67,7 @@ def _declared(library):
     given, lent, size = ctypes.c_char_p, ctypes.c_void_p, ctypes.c_size_t
     wide, told = ctypes.c_uint64, ctypes.POINTER(ctypes.c_uint64)
     opening = [given, size, lent, lent, size, lent, size]
-    reading = opening + [given, size, lent, size, told]
+    reading = opening + [lent, size, given, size, lent, size, told]
     converting = [given, size, lent, size, told]
     sending = [wide, wide, wide, wide, given, size, lent, size, told]
     by_chip = [('map_test', [given, size]), ('open', opening), ('read', reading), ('next_record', reading + [told])]
@@ -74,7 +76,9 @@ def _declared(library):
                                           ('mend', [lent, size, lent, size, told]),
                                           ('send', sending), ('send_older', [wide] + sending),
                                           ('send_setup', [wide, given, size, lent, size, told]),
-                                          ('fewest_frames', [wide, ctypes.POINTER(ctypes.c_uint16), size, given, size, lent, size, told])]:
+                                          ('fewest_frames', [wide, ctypes.POINTER(ctypes.c_uint16), size, given, size, lent, size, told]),
+                                          ('touched_mark', [lent, size]), ('touched_count', [lent, size, told]),
+                                          ('touched_next', [lent, size, wide, told])]:
         call = getattr(library, 'couplingnut_' + name)
         call.argtypes, call.restype = types, ctypes.c_uint32
     library.couplingnut_message.argtypes, library.couplingnut_message.restype = [ctypes.c_uint32], ctypes.c_char_p
@@ -236,6 +240,23 @@ def _lent(memory):
     return (ctypes.c_uint8 * length).from_buffer(memory) if length else (ctypes.c_uint8 * 1)(), length
 
 
+def _words_lent(words):
+    """Words of 64 bits that a call may write, and how many they are; at least one, as above."""
+    view = memoryview(words)
+    if view.itemsize != 8 or view.format.lstrip('@=<') not in ('Q', 'L'):
+        raise TypeError("the words are no numbers of 64 bits, as array('Q') has them")
+    length = len(view)
+    lent = (ctypes.c_uint64 * length).from_buffer(words) if length else (ctypes.c_uint64 * 1)()
+    if ctypes.addressof(lent) % 8:
+        raise ValueError('the words are not aligned to 8 bytes')
+    return lent, length
+
+
+def _touched_lent(words, map):
+    """The words of touched registers; where the caller has none, such as a map needs."""
+    return _words_lent(touched_words(map) if words is None else words)
+
+
 def _banks_lent(active, buffer):
     """Two banks, which may not overlap, with their lengths."""
     (first, first_length), (second, second_length) = _lent(active), _lent(buffer)
@@ -331,30 +352,32 @@ def open(map, active, buffer, part=None, top=None):
     return Session(room)
 
 
-def read(map, session, active, buffer, samples, room=None, part=None, top=None):
-    """Reads samples, at most 65,536: the next session, and a list of records. The banks change in place.
+def read(map, session, active, buffer, samples, room=None, part=None, top=None, touched=None):
+    """Reads samples, at most 65,536: the next session, and a list of records. The banks change in place, and so do the words of touched
+    registers, `touched`, if they are given: `touched_words` makes them.
 
-    `room` is how many records there is room for; as many as there can be, if it isn't given. Refused: 1 to 6; of a part also 12.
+    `room` is how many records there is room for; as many as there can be, if it isn't given. Refused: 1 to 6, 16; of a part also 12.
     """
     map, samples = bytes(map), bytes(samples)
     call, first = _by_chip('read', part, top, map)
     state = (ctypes.c_uint8 * SESSION_SIZE)(*bytes(session))
     records = bytearray(RECORD_SIZE * (len(samples) // 3 + 1 if room is None else room))
     count = ctypes.c_uint64()
-    _accept(call(*first, map, len(map), state, *_banks_lent(active, buffer), samples, len(samples), *_lent(records), ctypes.byref(count)))
+    _accept(call(*first, map, len(map), state, *_banks_lent(active, buffer), *_touched_lent(touched, map), samples, len(samples),
+                 *_lent(records), ctypes.byref(count)))
     return Session(state), _records_of(records, count.value)
 
 
-def next_record(map, session, active, buffer, samples, part=None, top=None):
+def next_record(map, session, active, buffer, samples, part=None, top=None, touched=None):
     """Reads samples up to and with the first that gives a record, or all of them: the next session, the record or None, and how many
-    samples were read. Refused: 1 to 5; of a part also 12."""
+    samples were read. Refused: 1 to 5, 16; of a part also 12."""
     map, samples = bytes(map), bytes(samples)
     call, first = _by_chip('next_record', part, top, map)
     state = (ctypes.c_uint8 * SESSION_SIZE)(*bytes(session))
     records = bytearray(RECORD_SIZE)
     count, taken = ctypes.c_uint64(), ctypes.c_uint64()
-    _accept(call(*first, map, len(map), state, *_banks_lent(active, buffer), samples, len(samples), *_lent(records), ctypes.byref(count),
-                 ctypes.byref(taken)))
+    _accept(call(*first, map, len(map), state, *_banks_lent(active, buffer), *_touched_lent(touched, map), samples, len(samples),
+                 *_lent(records), ctypes.byref(count), ctypes.byref(taken)))
     return Session(state), next(iter(_records_of(records, count.value)), None), taken.value
 
 
@@ -403,3 +426,35 @@ def cut_orders(orders, most=MOST_ORDERS):
         if count == most or end >= len(orders):
             yield orders[start:end]
             start, count = end, 0
+
+
+def touched_words(map):
+    """Words with a bit for each register of a map, all clear: bit a mod 64 of word a // 64 is that of address a."""
+    return array('Q', bytes(8 * ((_registers(map) + 63) // 64)))
+
+
+def touched_mark(words):
+    """Clears every bit of the words, in place. Refused: 16, for more than 128 of them."""
+    _accept(_LIBRARY.couplingnut_touched_mark(*_words_lent(words)))
+
+
+def touched_count(words):
+    """How many bits of the words are set. Refused: 16."""
+    count = ctypes.c_uint64()
+    _accept(_LIBRARY.couplingnut_touched_count(*_words_lent(words), ctypes.byref(count)))
+    return count.value
+
+
+def touched_next(words, start=0):
+    """The first address from a start on, that one included, whose bit is set; 64 times the number of words if none is. Refused: 16."""
+    address = ctypes.c_uint64()
+    _accept(_LIBRARY.couplingnut_touched_next(*_words_lent(words), _wide(start, 'start'), ctypes.byref(address)))
+    return address.value
+
+
+def touched(words):
+    """Each address whose bit is set, by rising address. Refused: 16."""
+    address = touched_next(words)
+    while address < 64 * len(words):
+        yield address
+        address = touched_next(words, address + 1)

@@ -1,8 +1,10 @@
 #!/usr/bin/env python3
 """Tests of couplingnut.py, and through it of the shared library: a line that begins with 'ok' for each that passes."""
+import ctypes
 import os
 import sys
 import unittest
+from array import array
 
 HERE = os.path.dirname(os.path.abspath(__file__))
 sys.path.insert(0, HERE)
@@ -93,6 +95,15 @@ class Couplingnut(unittest.TestCase):
             session = cn.open(map, active, buffer)
             left.append((cn.read(map, session, active, buffer, SCRATCH_WRITE), active, buffer))
         self.assertEqual(left[0], left[1])
+
+    def test_touched_by_reading(self):
+        """the reader touches the registers that are written"""
+        session, *banks = opened()
+        words = cn.touched_words(MAP)
+        cn.read(MAP, session, *banks, SCRATCH_WRITE, touched=words)
+        self.assertEqual(list(cn.touched(words)), [0x000A])
+        self.assert_refused(16, cn.read, MAP, session, *banks, SCRATCH_WRITE, touched=cn.array('Q', [0, 0]))
+        self.assert_refused(16, cn.next_record, MAP, session, *banks, SCRATCH_WRITE, touched=cn.array('Q'))
 
     def test_rise(self):
         """with the flag, the end of the frame puts a buffered register in force"""
@@ -282,6 +293,40 @@ class Couplingnut(unittest.TestCase):
         self.assertEqual(list(cn.cut_orders(b''.join(orders))), [b''.join(orders)])
         self.assertEqual(list(cn.cut_orders(b'')), [])
 
+    def test_touched(self):
+        """touched registers are counted, and found one after the other"""
+        addresses = [0, 5, 63, 64, 200, 8191]
+        words = array('Q', [0] * 128)
+        for address in addresses:
+            words[address // 64] |= 1 << address % 64
+        self.assertEqual(cn.touched_count(words), 6)
+        self.assertEqual(list(cn.touched(words)), addresses)
+        self.assertEqual([cn.touched_next(words, start) for start in (5, 6, 201, 8191, 8192, 2 ** 64 - 1)], [5, 63, 8191, 8191, 8192, 8192])
+        self.assertEqual(cn.touched_next((ctypes.c_uint64 * 2)(0, 2)), 65)
+        cn.touched_mark(words)
+        self.assertEqual(words, array('Q', [0] * 128))
+        self.assertEqual((cn.touched_count(words), cn.touched_next(words), list(cn.touched(words))), (0, 8192, []))
+
+    def test_touched_words(self):
+        """a word for 64 registers, and none at all"""
+        for registers, words in [(16, 1), (63, 1), (64, 1), (65, 2), (8192, 128)]:
+            self.assertEqual(cn.touched_words(b'\0\0\1' + registers.to_bytes(2, 'big')), array('Q', [0] * words))
+        none = array('Q')
+        cn.touched_mark(none)
+        self.assertEqual((cn.touched_count(none), cn.touched_next(none), cn.touched_next(none, 7)), (0, 0, 0))
+
+    def test_touched_refused(self):
+        """more than 128 words are refused, and left as they were"""
+        words = array('Q', [2 ** 64 - 1] * 129)
+        for call in (cn.touched_mark, cn.touched_count, cn.touched_next):
+            self.assert_refused(16, call, words)
+            self.assertRaises(TypeError, call, bytearray(16))
+            self.assertRaises(TypeError, call, array('q', [0]))
+        self.assertEqual(words, array('Q', [2 ** 64 - 1] * 129))
+        self.assertRaises(ValueError, cn.touched_mark, memoryview(bytearray(17))[1:].cast('Q'))
+        self.assertRaises(ValueError, cn.touched_next, words[:128], -1)
+        self.assertRaises(ValueError, cn.touched_next, words[:128], 2 ** 64)
+
     def test_older_maps(self):
         """a map of each older part"""
         for part, map, other in [('AD9557', AD9557_MAP, AD9508_MAP), ('AD9508', AD9508_MAP, AD9557_MAP)]:
@@ -365,7 +410,7 @@ class Couplingnut(unittest.TestCase):
 
     def test_message(self):
         """each number has words of its own"""
-        given = [*range(16), 18, 19]
+        given = [*range(17), 18, 19]
         self.assertEqual(len({cn.message(number) for number in given + [2 ** 32 - 1]}), len(given) + 1)
 
 

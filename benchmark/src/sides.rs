@@ -7,8 +7,9 @@
 use couplingnut_tests::library;
 use couplingnut_tests::second::map::map_test;
 use couplingnut_tests::second::older::{Older, Part};
-use couplingnut_tests::second::reader::{self, open, read};
+use couplingnut_tests::second::reader::{self, open, read, Banks};
 use couplingnut_tests::second::sender::{self, send, Order};
+use couplingnut_tests::second::touched::words_for;
 
 #[derive(Clone, Copy, Debug, PartialEq, Eq)]
 pub enum Side {
@@ -21,6 +22,8 @@ pub enum Side {
 pub struct Space {
     pub active: Vec<u8>,
     pub buffer: Vec<u8>,
+    /// Of touched registers.
+    pub words: Vec<u64>,
     /// Records, or outgoing samples.
     pub out: Vec<u8>,
     pub number: u32,
@@ -32,11 +35,48 @@ impl Space {
         Space {
             active: vec![0xA5; registers],
             buffer: vec![0x5A; registers],
+            words: vec![0; words_for(registers)],
             out: vec![0xEE; room],
             number: 99,
             count: 99,
         }
     }
+}
+
+#[cfg(benchmark_library)]
+#[link(name = "benchmark", kind = "static")]
+extern "C" {
+    fn benchmark_read(
+        map: *const u8,
+        map_length: usize,
+        active: *mut u8,
+        active_length: usize,
+        buffer: *mut u8,
+        buffer_length: usize,
+        words: *mut u64,
+        words_count: usize,
+        samples: *const u8,
+        samples_length: usize,
+        records: *mut u8,
+        records_length: usize,
+        count: *mut u64,
+    ) -> u32;
+    fn benchmark_read_older(
+        top: u64,
+        map: *const u8,
+        map_length: usize,
+        active: *mut u8,
+        active_length: usize,
+        buffer: *mut u8,
+        buffer_length: usize,
+        words: *mut u64,
+        words_count: usize,
+        samples: *const u8,
+        samples_length: usize,
+        records: *mut u8,
+        records_length: usize,
+        count: *mut u64,
+    ) -> u32;
 }
 
 /// Opens and reads from the opened session.
@@ -49,24 +89,7 @@ pub fn read_by(side: Side, map: &[u8], samples: &[u8], space: &mut Space) {
 
 #[cfg(benchmark_library)]
 fn proved_read(map: &[u8], samples: &[u8], space: &mut Space) {
-    #[link(name = "benchmark", kind = "static")]
-    extern "C" {
-        fn benchmark_read(
-            map: *const u8,
-            map_length: usize,
-            active: *mut u8,
-            active_length: usize,
-            buffer: *mut u8,
-            buffer_length: usize,
-            samples: *const u8,
-            samples_length: usize,
-            records: *mut u8,
-            records_length: usize,
-            count: *mut u64,
-        ) -> u32;
-    }
-
-    let Space { active, buffer, out, count, .. } = space;
+    let Space { active, buffer, words, out, count, .. } = space;
     // SAFETY: the pointers and lengths are those of slices, and what is
     // written is borrowed for this call alone.
     space.number = unsafe {
@@ -77,6 +100,8 @@ fn proved_read(map: &[u8], samples: &[u8], space: &mut Space) {
             active.len(),
             buffer.as_mut_ptr(),
             buffer.len(),
+            words.as_mut_ptr(),
+            words.len(),
             samples.as_ptr(),
             samples.len(),
             out.as_mut_ptr(),
@@ -95,13 +120,14 @@ fn proved_read(_: &[u8], _: &[u8], _: &mut Space) {
 #[no_mangle]
 #[inline(never)]
 fn second_read(map: &[u8], samples: &[u8], space: &mut Space) {
-    let Space { active, buffer, out, .. } = space;
+    let Space { active, buffer, words, out, .. } = space;
     let (number, mut session) = open(map, active, buffer);
     if number != 0 {
         (space.number, space.count) = (number.into(), 0);
         return;
     }
-    let answer = read(map, &mut session, active, buffer, samples, out);
+    let banks = Banks { active, buffer, words };
+    let answer = read(map, &mut session, banks, samples, out);
     (space.number, space.count) = (answer.number.into(), answer.count as u64);
 }
 
@@ -115,24 +141,7 @@ pub fn read_older_by(side: Side, top: u64, map: &[u8], samples: &[u8], space: &m
 
 #[cfg(benchmark_library)]
 fn proved_read_older(top: u64, map: &[u8], samples: &[u8], space: &mut Space) {
-    extern "C" {
-        fn benchmark_read_older(
-            top: u64,
-            map: *const u8,
-            map_length: usize,
-            active: *mut u8,
-            active_length: usize,
-            buffer: *mut u8,
-            buffer_length: usize,
-            samples: *const u8,
-            samples_length: usize,
-            records: *mut u8,
-            records_length: usize,
-            count: *mut u64,
-        ) -> u32;
-    }
-
-    let Space { active, buffer, out, count, .. } = space;
+    let Space { active, buffer, words, out, count, .. } = space;
     // SAFETY: as in `proved_read`.
     space.number = unsafe {
         benchmark_read_older(
@@ -143,6 +152,8 @@ fn proved_read_older(top: u64, map: &[u8], samples: &[u8], space: &mut Space) {
             active.len(),
             buffer.as_mut_ptr(),
             buffer.len(),
+            words.as_mut_ptr(),
+            words.len(),
             samples.as_ptr(),
             samples.len(),
             out.as_mut_ptr(),
@@ -162,13 +173,14 @@ fn proved_read_older(_: u64, _: &[u8], _: &[u8], _: &mut Space) {
 #[inline(never)]
 fn second_read_older(top: u64, map: &[u8], samples: &[u8], space: &mut Space) {
     let older = Older { part: Part::Ad9557, top };
-    let Space { active, buffer, out, .. } = space;
+    let Space { active, buffer, words, out, .. } = space;
     let (number, mut session) = reader::open_by(older, map, active, buffer);
     if number != 0 {
         (space.number, space.count) = (number.into(), 0);
         return;
     }
-    let answer = reader::read_by(older, map, &mut session, active, buffer, samples, out);
+    let banks = Banks { active, buffer, words };
+    let answer = reader::read_by(older, map, &mut session, banks, samples, out);
     (space.number, space.count) = (answer.number.into(), answer.count as u64);
 }
 

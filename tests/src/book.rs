@@ -1,19 +1,21 @@
 //! The book of document 01's stopped run, written down directly; for older chips as
-//! document 02, Ask 1 has it, and with the rise of Ask 4 at its end.
+//! document 02, Ask 1 has it, with the rise of Ask 4 at its end, and with the words of
+//! Ask 7.
 
 use crate::chip::Chip;
 use crate::generate::maps::entry_at;
 use crate::second::sender::Order;
 
-/// The active bank and the buffer bank.
-pub type Banks = (Vec<u8>, Vec<u8>);
+/// The active bank, the buffer bank and the words of touched registers.
+pub type Kept = (Vec<u8>, Vec<u8>, Vec<u64>);
 
-/// The two banks, and the writes of whole bytes by the writing rule.
+/// The two banks and the words, and the writes of whole bytes by the writing rule.
 struct Book<'a> {
     is_older: bool,
     map: &'a [u8],
     active: Vec<u8>,
     buffer: Vec<u8>,
+    words: Vec<u64>,
     /// Whether a byte went to a buffered register, and no soft reset came after it.
     has_buffered: bool,
 }
@@ -31,6 +33,9 @@ impl Book<'_> {
                 .filter(|bit| if mask & bit != 0 { v } else { old } & bit != 0)
                 .sum()
         };
+        if matches!(self.entry(address), Some([2 | 3, ..])) {
+            self.words[address / 64] |= 1 << (address % 64);
+        }
         match self.entry(address) {
             Some(&[2, mask, _]) => self.active[address] = masked(self.active[address], mask),
             Some(&[3, mask, _]) => {
@@ -72,29 +77,40 @@ impl Book<'_> {
     }
 }
 
+/// What a chip has of these.
+pub fn kept(chip: &Chip) -> Kept {
+    (chip.active.clone(), chip.buffer.clone(), chip.words.clone())
+}
+
 /// Whether bit i is bit 7 less i, for each i.
 fn is_mirror(v: u8) -> bool {
     (0..4).all(|i| v >> i & 1 == v >> (7 - i) & 1)
 }
 
-/// The banks after the order's bytes that are whole when s samples were sent, and
-/// after the rise.
-pub fn book(chip: &Chip, order: &Order, s: usize) -> Banks {
+/// Banks and words after the order's bytes that are whole when s samples were sent,
+/// and after the rise.
+pub fn book(chip: &Chip, order: &Order, s: usize) -> Kept {
     let mut book = written(chip, order, s);
     book.rise();
-    (book.active, book.buffer)
+    (book.active, book.buffer, book.words)
 }
 
-/// The same without the rise: the banks while the select is still low.
-pub fn book_before_the_rise(chip: &Chip, order: &Order, s: usize) -> Banks {
+/// The same without the rise: banks and words while the select is still low.
+pub fn book_before_the_rise(chip: &Chip, order: &Order, s: usize) -> Kept {
     let book = written(chip, order, s);
-    (book.active, book.buffer)
+    (book.active, book.buffer, book.words)
 }
 
 fn written<'a>(chip: &'a Chip, order: &Order, s: usize) -> Book<'a> {
-    let (active, buffer) = (chip.active.clone(), chip.buffer.clone());
     let is_older = chip.older.is_some();
-    let mut book = Book { is_older, map: &chip.map, active, buffer, has_buffered: false };
+    let mut book = Book {
+        is_older,
+        map: &chip.map,
+        active: chip.active.clone(),
+        buffer: chip.buffer.clone(),
+        words: chip.words.clone(),
+        has_buffered: false,
+    };
     // An older chip goes up lowest bit first.
     let ascending = if is_older { order.settings & 1 } else { order.settings & 2 };
     let mut address = order.start as usize;

@@ -5,13 +5,18 @@
 use std::cell::RefCell;
 
 use crate::calls::{Call, Given, Memory};
+use crate::guarded::{Against, Guarded};
 use crate::layout::{from_bytes, to_bytes, SESSION_SIZE};
 use crate::library;
-use crate::made::{agreed, Agreed};
+use crate::made::{agreed, Agreed, NOT_WRITTEN};
 use crate::second::older::Older;
+use crate::second::reader::Banks;
 use crate::second::sender::Order;
 use crate::second::session::Session;
-use crate::second::{converter, frames, map, mend, reader, sender, setup, Answer};
+use crate::second::{converter, frames, map, mend, reader, sender, setup, touched, Answer};
+
+/// The most that is lent as words.
+const MOST_BYTES: usize = 1 << 16;
 
 /// The number of a map.
 pub fn map_test(bytes: &[u8]) -> u8 {
@@ -52,6 +57,7 @@ pub fn open_by(
         session: [0xEE; SESSION_SIZE],
         active: active.to_vec(),
         buffer: buffer.to_vec(),
+        words: Vec::new(),
         samples: Vec::new(),
         records: Vec::new(),
     });
@@ -66,8 +72,7 @@ pub fn read_by(
     older: Option<Older>,
     map: &[u8],
     session: &mut Session,
-    active: &mut [u8],
-    buffer: &mut [u8],
+    banks: Banks,
     samples: &[u8],
     records: &mut [u8],
 ) -> Answer {
@@ -76,15 +81,16 @@ pub fn read_by(
             older,
             map: map.to_vec(),
             session: to_bytes(session),
-            active: active.to_vec(),
-            buffer: buffer.to_vec(),
+            active: banks.active.to_vec(),
+            buffer: banks.buffer.to_vec(),
+            words: banks.words.to_vec(),
             samples: samples.to_vec(),
             records: records.to_vec(),
         });
     }
     match older {
-        None => reader::read(map, session, active, buffer, samples, records),
-        Some(older) => reader::read_by(older, map, session, active, buffer, samples, records),
+        None => reader::read(map, session, banks, samples, records),
+        Some(older) => reader::read_by(older, map, session, banks, samples, records),
     }
 }
 
@@ -186,6 +192,58 @@ pub fn try_fewest_frames(ascending: u64, addresses: &[u16], bytes: &[u8], out: &
         library::frames::fewest_frames(ascending, addresses, bytes, out, length)
     };
     agreed([&in_memory, bytes, out], second, product)
+}
+
+/// The number; the words take what the call left there.
+pub fn touched_mark(words: &mut [u64]) -> u8 {
+    let given = words.to_vec();
+    let number = touched::mark(words);
+    assert_words_agree(&given, (number, 0), words, |words, told| {
+        *told = 0;
+        library::touched::mark(words)
+    });
+    number
+}
+
+/// The number, and how many registers were touched.
+pub fn touched_count(words: &[u64]) -> (u8, u64) {
+    let answer = touched::count(words);
+    assert_words_agree(words, answer, words, |words, told| library::touched::count(words, told));
+    answer
+}
+
+/// The number, and the address of the next register that was touched.
+pub fn touched_next(words: &[u64], from: u64) -> (u8, u64) {
+    let answer = touched::next(words, from);
+    assert_words_agree(words, answer, words, |words, told| {
+        library::touched::next(words, from, told)
+    });
+    answer
+}
+
+/// That the library's call on words, in memory against either inaccessible page, has
+/// this answer and leaves these words.
+fn assert_words_agree(
+    words: &[u64],
+    (number, answer): (u8, u64),
+    left: &[u64],
+    product: impl Fn(&mut [u64], &mut u64) -> Option<u32>,
+) {
+    thread_local! {
+        static MEMORY: RefCell<(Guarded, Guarded)> =
+            RefCell::new((Guarded::new(MOST_BYTES), Guarded::new(8)));
+    }
+    let expected = (u32::from(number), answer);
+    for against in [Against::PageAfter, Against::PageBefore] {
+        MEMORY.with_borrow_mut(|(lent, told)| {
+            let lent = lent.hold_words(words, against);
+            let told = told.hold_number(NOT_WRITTEN, against);
+            if let Some(number) = product(lent, told) {
+                assert_eq!((number, *told), expected, "the library on {words:016X?}");
+                assert_eq!(lent, left, "what the library left of {words:016X?}");
+            }
+        });
+    }
 }
 
 /// The answer; the buffer, which is lent last, takes what the call left there.

@@ -9,14 +9,13 @@ use crate::generate::maps::count_of;
 use crate::guarded::{Against, Guarded};
 use crate::layout::{from_bytes, to_bytes, SessionBytes, SESSION_SIZE};
 use crate::library::{self, Lent};
+use crate::made::NOT_WRITTEN;
 use crate::second::older::Older;
-use crate::second::reader::{self, CUT, READ, RECORD};
+use crate::second::reader::{self, Banks, CUT, READ, RECORD};
 use crate::second::rules::Rules;
 use crate::second::session::Session;
+use crate::second::touched::words_for;
 use crate::second::Answer;
-
-/// What a count holds before a call, so that one that is not written is seen.
-const NOT_WRITTEN: u64 = 0xDEAD_BEEF_DEAD_BEEF;
 
 /// The file that holds the seed of the present case.
 const RUNNING: &str = "running";
@@ -33,7 +32,7 @@ impl Call {
     pub const READING: [Call; 2] = [Call::Read, Call::NextRecord];
 }
 
-/// What a call is given. Opening leaves samples and records alone.
+/// What a call is given. Opening leaves words, samples and records alone.
 #[derive(Clone, Debug, PartialEq, Eq)]
 pub struct Given {
     /// Part and top, if the call is that of an older chip.
@@ -42,6 +41,8 @@ pub struct Given {
     pub session: SessionBytes,
     pub active: Vec<u8>,
     pub buffer: Vec<u8>,
+    /// Of touched registers.
+    pub words: Vec<u64>,
     pub samples: Vec<u8>,
     pub records: Vec<u8>,
 }
@@ -56,13 +57,15 @@ pub struct Left {
     pub session: SessionBytes,
     pub active: Vec<u8>,
     pub buffer: Vec<u8>,
+    pub words: Vec<u64>,
     pub records: Vec<u8>,
     /// That map and samples are as they were.
     pub inputs_kept: bool,
 }
 
 impl Given {
-    /// A call that nothing refuses: a good map after opening, and no samples.
+    /// A call that nothing refuses: a good map after opening, no register touched, and
+    /// no samples.
     pub fn opened(map: &[u8]) -> Self {
         Given::opened_by(None, map)
     }
@@ -76,6 +79,7 @@ impl Given {
             session: [0; SESSION_SIZE],
             active: vec![0; count],
             buffer: vec![0; count],
+            words: vec![0; words_for(count)],
             samples: Vec::new(),
             records: Vec::new(),
         };
@@ -85,11 +89,12 @@ impl Given {
         given
     }
 
-    /// Takes over the session and the banks that a call left.
+    /// Takes over the session, the banks and the words that a call left.
     pub fn go_on(&mut self, left: &Left) {
         self.session = left.session;
         self.active.clone_from(&left.active);
         self.buffer.clone_from(&left.buffer);
+        self.words.clone_from(&left.words);
     }
 
     /// Whether the session is one, and sound for the chip that is named.
@@ -117,6 +122,7 @@ impl Given {
             session: self.session,
             active: self.active.clone(),
             buffer: self.buffer.clone(),
+            words: self.words.clone(),
             records: self.records.clone(),
             inputs_kept: true,
         }
@@ -150,23 +156,20 @@ impl Given {
                 ("samples", &self.samples),
                 ("records", &self.records),
             ])
+            + &words_line(&self.words)
     }
 
     fn expect_read(&self, call: Call, mut session: Session, left: &mut Left) {
         let Given { map, samples, .. } = self;
-        let Left { active, buffer, records, .. } = left;
-        let next = &mut session;
+        let Left { active, buffer, words, records, .. } = left;
+        let (next, banks) = (&mut session, Banks { active, buffer, words });
         let (Answer { number, count }, taken) = match (call, self.older) {
-            (Call::NextRecord, None) => {
-                reader::next_record(map, next, active, buffer, samples, records)
-            }
+            (Call::NextRecord, None) => reader::next_record(map, next, banks, samples, records),
             (Call::NextRecord, Some(older)) => {
-                reader::next_record_by(older, map, next, active, buffer, samples, records)
+                reader::next_record_by(older, map, next, banks, samples, records)
             }
-            (_, None) => (reader::read(map, next, active, buffer, samples, records), 0),
-            (_, Some(older)) => {
-                (reader::read_by(older, map, next, active, buffer, samples, records), 0)
-            }
+            (_, None) => (reader::read(map, next, banks, samples, records), 0),
+            (_, Some(older)) => (reader::read_by(older, map, next, banks, samples, records), 0),
         };
         left.number = u32::from(number);
         left.count = count as u64;
@@ -184,7 +187,7 @@ impl Left {
             ("active", &self.active),
             ("buffer", &self.buffer),
             ("records", &self.records),
-        ])
+        ]) + &words_line(&self.words)
     }
 }
 
@@ -194,6 +197,7 @@ pub struct Memory {
     session: Guarded,
     active: Guarded,
     buffer: Guarded,
+    words: Guarded,
     samples: Guarded,
     records: Guarded,
     count: Guarded,
@@ -208,6 +212,7 @@ impl Default for Memory {
             session: Guarded::new(SESSION_SIZE),
             active: Guarded::new(32_768),
             buffer: Guarded::new(32_768),
+            words: Guarded::new(8 * 1_024),
             samples: Guarded::new(70_000),
             records: Guarded::new(RECORD * 70_000),
             count: Guarded::new(8),
@@ -226,6 +231,7 @@ impl Memory {
             session: session.try_into().expect("a session has its size"),
             active: self.active.hold(&given.active, self.against),
             buffer: self.buffer.hold(&given.buffer, self.against),
+            words: self.words.hold_words(&given.words, self.against),
             samples: self.samples.hold(&given.samples, self.against),
             records: self.records.hold(&given.records, self.against),
             count: self.count.hold_number(NOT_WRITTEN, self.against),
@@ -246,6 +252,7 @@ impl Memory {
             session: *lent.session,
             active: lent.active.to_vec(),
             buffer: lent.buffer.to_vec(),
+            words: lent.words.to_vec(),
             records: lent.records.to_vec(),
             inputs_kept: lent.map == given.map && lent.samples == given.samples,
         })
@@ -258,7 +265,7 @@ impl Memory {
 pub struct Tally {
     pub calls: u64,
     /// How often each call gave each number.
-    pub numbers: [[u64; 13]; 3],
+    pub numbers: [[u64; 17]; 3],
     pub writes_by_effect: [u64; 6],
     /// The same writes without and with bits that moved.
     pub moves_by_effect: [[u64; 2]; 6],
@@ -387,6 +394,12 @@ fn lines(named: &[(&str, &[u8])]) -> String {
     named.iter().map(|(name, bytes)| format!("{name}:{}\n", hex(bytes))).collect()
 }
 
+/// Words of touched registers, as one line.
+fn words_line(words: &[u64]) -> String {
+    let hex: String = words.iter().map(|word| format!(" {word:016X}")).collect();
+    format!("words:{hex}\n")
+}
+
 /// The names of what differs.
 fn differing(found: &Left, expected: &Left) -> Vec<&'static str> {
     let parts = [
@@ -396,6 +409,7 @@ fn differing(found: &Left, expected: &Left) -> Vec<&'static str> {
         ("session", found.session != expected.session),
         ("active bank", found.active != expected.active),
         ("buffer bank", found.buffer != expected.buffer),
+        ("words", found.words != expected.words),
         ("records", found.records != expected.records),
         ("map or samples", found.inputs_kept != expected.inputs_kept),
     ];

@@ -1,15 +1,16 @@
-//! A chip on the bus: a map with its session and its two banks. Both sides open
-//! it, read it and send to it.
+//! A chip on the bus: a map with its session, its two banks and the words of its
+//! touched registers. Both sides open it, read it and send to it.
 
 use crate::both::{open_by, read_by, send, send_older};
 use crate::calls::Given;
 use crate::generate::maps::count_of;
 use crate::layout::to_bytes;
 use crate::second::older::Older;
-use crate::second::reader::RECORD;
+use crate::second::reader::{Banks, RECORD};
 use crate::second::sender::Order;
 use crate::second::session::Session;
 use crate::second::settings::Settings;
+use crate::second::touched::words_for;
 use crate::second::Answer;
 
 /// What the sender's settings number names, in its order.
@@ -24,10 +25,11 @@ pub struct Chip {
     pub session: Session,
     pub active: Vec<u8>,
     pub buffer: Vec<u8>,
+    pub words: Vec<u64>,
 }
 
 impl Chip {
-    /// The chip after opening. The map has to be a good one.
+    /// The chip after opening, no register touched. The map has to be a good one.
     pub fn opened(map: &[u8]) -> Self {
         Chip::opened_by(None, map)
     }
@@ -38,13 +40,19 @@ impl Chip {
         let (mut active, mut buffer) = (vec![0; count], vec![0; count]);
         let (number, session) = open_by(older, map, &mut active, &mut buffer);
         assert_eq!(number, 0, "the map of a chip is good");
-        Chip { older, map: map.to_vec(), session, active, buffer }
+        let words = vec![0; words_for(count)];
+        Chip { older, map: map.to_vec(), session, active, buffer, words }
     }
 
     /// The read call as it is.
     pub fn call(&mut self, samples: &[u8], records: &mut [u8]) -> Answer {
-        let Chip { older, map, session, active, buffer } = self;
-        read_by(*older, map, session, active, buffer, samples, records)
+        let Chip { older, map, session, active, buffer, words } = self;
+        read_by(*older, map, session, Banks { active, buffer, words }, samples, records)
+    }
+
+    /// Sets the bit of a register, as a write with effect 1 or 2 does.
+    pub fn touch(&mut self, address: usize) {
+        self.words[address / 64] |= 1 << (address % 64);
     }
 
     /// What the library's calls are given for this chip.
@@ -55,6 +63,7 @@ impl Chip {
             session: to_bytes(&self.session),
             active: self.active.clone(),
             buffer: self.buffer.clone(),
+            words: self.words.clone(),
             samples: samples.to_vec(),
             records: records.to_vec(),
         }

@@ -78,6 +78,15 @@ impl Guarded {
         // SAFETY: eight bytes at the edge of a page, and so aligned.
         unsafe { &mut *bytes.as_mut_ptr().cast::<u64>() }
     }
+
+    /// These words, against a page.
+    pub fn hold_words(&mut self, words: &[u64], against: Against) -> &mut [u64] {
+        let in_memory: Vec<u8> = words.iter().flat_map(|word| word.to_ne_bytes()).collect();
+        let start = self.hold(&in_memory, against).as_mut_ptr().cast::<u64>();
+        // SAFETY: eight bytes each, the first or the last of them at the edge of a page,
+        // and so aligned.
+        unsafe { std::slice::from_raw_parts_mut(start, words.len()) }
+    }
 }
 
 impl Drop for Guarded {

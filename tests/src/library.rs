@@ -9,6 +9,7 @@ pub mod frames;
 pub mod mend;
 pub mod older;
 pub mod setup;
+pub mod touched;
 
 pub use calls::{map_test, next_record, open, read, send_into};
 
@@ -35,13 +36,14 @@ pub fn send(order: &Order, out: &mut [u8]) -> (u32, u64) {
     (number, samples)
 }
 
-/// What is lent to a call of the reader. Opening takes no samples, records or
+/// What is lent to a call of the reader. Opening takes no words, samples, records or
 /// counts, and `read` no count of taken samples.
 pub struct Lent<'a> {
     pub map: &'a [u8],
     pub session: &'a mut SessionBytes,
     pub active: &'a mut [u8],
     pub buffer: &'a mut [u8],
+    pub words: &'a mut [u64],
     pub samples: &'a [u8],
     pub records: &'a mut [u8],
     /// How many records, afterwards.
@@ -76,6 +78,8 @@ mod calls {
             active_length: usize,
             buffer: *mut u8,
             buffer_length: usize,
+            words: *mut u64,
+            words_count: usize,
             samples: *const u8,
             samples_length: usize,
             records: *mut u8,
@@ -90,6 +94,8 @@ mod calls {
             active_length: usize,
             buffer: *mut u8,
             buffer_length: usize,
+            words: *mut u64,
+            words_count: usize,
             samples: *const u8,
             samples_length: usize,
             records: *mut u8,
@@ -142,6 +148,8 @@ mod calls {
                 lent.active.len(),
                 lent.buffer.as_mut_ptr(),
                 lent.buffer.len(),
+                lent.words.as_mut_ptr(),
+                lent.words.len(),
                 lent.samples.as_ptr(),
                 lent.samples.len(),
                 lent.records.as_mut_ptr(),
@@ -162,6 +170,8 @@ mod calls {
                 lent.active.len(),
                 lent.buffer.as_mut_ptr(),
                 lent.buffer.len(),
+                lent.words.as_mut_ptr(),
+                lent.words.len(),
                 lent.samples.as_ptr(),
                 lent.samples.len(),
                 lent.records.as_mut_ptr(),

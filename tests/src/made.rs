@@ -7,7 +7,7 @@ use crate::guarded::{Against, Guarded};
 use crate::second::Answer;
 
 /// What the length holds before a call, so that one that is not written is seen.
-const NOT_WRITTEN: u64 = 0xDEAD_BEEF_DEAD_BEEF;
+pub const NOT_WRITTEN: u64 = 0xDEAD_BEEF_DEAD_BEEF;
 
 /// The most bytes that are lent as one piece.
 const LARGEST: usize = 1 << 17;

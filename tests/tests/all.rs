@@ -24,3 +24,4 @@ mod rise;
 mod sender;
 mod setup;
 mod stopped_run;
+mod touched;

@@ -1,5 +1,6 @@
 //! The reader's calls of the library against the second implementation: number,
-//! counts, session, both banks and the whole record buffer, call by call.
+//! counts, session, both banks, the words of touched registers and the whole record
+//! buffer, call by call.
 
 use couplingnut_tests::calls::{Call, Comparison, Given};
 use couplingnut_tests::environment::number_from;
@@ -8,6 +9,7 @@ use couplingnut_tests::generate::maps::{good_map, simple_map, with_flags};
 use couplingnut_tests::generate::random::Random;
 use couplingnut_tests::generate::sessions::{every_piece, with_every_setting};
 use couplingnut_tests::generate::traces::{clocks, trace};
+use couplingnut_tests::generate::words::any_words;
 use couplingnut_tests::guarded::Against;
 use couplingnut_tests::layout::{to_bytes, SESSION_SIZE};
 use couplingnut_tests::second::reader::RECORD;
@@ -41,8 +43,8 @@ fn lists_of_calls_agree() {
     if calls >= CALLS {
         let tally = &comparison.tally;
         tally.assert_numbers(Call::Open, &[0, 2, 3, 4], 300);
-        tally.assert_numbers(Call::Read, &[0, 1, 2, 3, 4, 5, 6], 1_000);
-        tally.assert_numbers(Call::NextRecord, &[0, 1, 2, 3, 4, 5, 6], 1_000);
+        tally.assert_numbers(Call::Read, &[0, 1, 2, 3, 4, 5, 6, 16], 1_000);
+        tally.assert_numbers(Call::NextRecord, &[0, 1, 2, 3, 4, 5, 6, 16], 1_000);
         tally.assert_records(6, 200);
     }
 }
@@ -54,14 +56,9 @@ fn compare_chain(comparison: &mut Comparison, mut chain: Chain) {
         }
         let (call, given) = chain.next_call();
         let left = comparison.call(call, &given);
-        // A refused call left the session and the banks that it was given.
+        // A refused call left the session, the banks and the words that it was given.
         if left.number == 0 {
-            chain.given.go_on(&left);
-            chain.take(match call {
-                Call::Open => 0,
-                Call::Read => given.samples.len(),
-                Call::NextRecord => left.taken as usize,
-            });
+            chain.go_on(call, &given, &left);
         }
     }
 }
@@ -85,6 +82,7 @@ fn sessions_in_every_phase_and_setting_are_read_on() {
         given.session = to_bytes(&session);
         given.active = random.bytes(24);
         given.buffer = random.bytes(24);
+        given.words = any_words(&mut random, 24);
         given.samples = clocks(&mut random, 50);
         given.records = random.bytes(RECORD * 17);
         assert!(session.is_sound(), "{session:?}");
@@ -180,6 +178,7 @@ fn the_printed_case_call_by_call() {
     assert_eq!(read.records, [0x01, 0x00, 0x0A, 0x3C, 0x3C, 0x01, 0x3C, 0xEE, 0xEE]);
     assert_eq!((read.active[0x000A], read.buffer[0x000A]), (0x3C, 0x00));
     assert_eq!(read.session, opened.session);
+    assert_eq!((opened.words, read.words), (vec![0], vec![1 << 0x000A]));
     // Byte 1 is whole once 33 + 16 samples have been sent.
     let next = comparison.call(Call::NextRecord, &given);
     assert_eq!((next.number, next.count, next.taken), (0, 1, 49));

@@ -47,6 +47,19 @@ fn kills(against: Against, length: usize, touch: Touch, at: isize) -> bool {
 }
 
 #[test]
+fn words_lie_against_either_page() {
+    let mut memory = Guarded::new(5_000);
+    for length in [0, 1, 2, 128, 129, 600] {
+        let words: Vec<u64> =
+            (1..=length).map(|i: u64| i.wrapping_mul(0x0102_0304_0506_0708)).collect();
+        let held = memory.hold_words(&words, Against::PageAfter);
+        assert_eq!((&*held, held.as_ptr_range().end as usize % 4_096), (&words[..], 0));
+        let held = memory.hold_words(&words, Against::PageBefore);
+        assert_eq!((&*held, held.as_ptr_range().start as usize % 4_096), (&words[..], 0));
+    }
+}
+
+#[test]
 fn a_byte_beyond_the_lent_ones_kills() {
     use Against::{PageAfter, PageBefore};
     for touch in [Touch::Read, Touch::Write] {

@@ -6,6 +6,7 @@ use couplingnut_tests::generate::maps::{count, good_map};
 use couplingnut_tests::generate::random::Random;
 use couplingnut_tests::generate::sessions::sound_session;
 use couplingnut_tests::generate::traces::{clocks, trace};
+use couplingnut_tests::generate::words::any_words;
 use couplingnut_tests::guarded::Against;
 use couplingnut_tests::layout::to_bytes;
 use couplingnut_tests::second::reader::{most_records, RECORD};
@@ -18,6 +19,7 @@ fn any_reading(random: &mut Random, length: usize) -> Given {
     given.session = to_bytes(&sound_session(random));
     given.active = random.bytes(count);
     given.buffer = random.bytes(count);
+    given.words = any_words(random, count);
     given.samples =
         if random.coin() { clocks(random, length) } else { trace(random, &map, length, true) };
     given.records = random.bytes(RECORD * most_records(length));
@@ -59,6 +61,7 @@ fn next_records_one_after_another_are_the_samples_read_at_once() {
         assert_eq!(records, read.records[..RECORD * read.count as usize], "seed {seed}");
         assert_eq!(after.session, read.session, "seed {seed}");
         assert!(after.active == read.active && after.buffer == read.buffer, "seed {seed}");
+        assert_eq!(after.words, read.words, "seed {seed}");
     }
     assert!(comparison.tally.calls > 20_000, "{} calls", comparison.tally.calls);
 }
@@ -96,6 +99,7 @@ fn the_next_record_stands_at_the_first_sample_that_gives_one() {
         assert_eq!(next.records, after.records, "seed {seed}");
         assert_eq!(next.session, after.session, "seed {seed}");
         assert!(next.active == after.active && next.buffer == after.buffer, "seed {seed}");
+        assert_eq!(next.words, after.words, "seed {seed}");
         *(if next.count == 1 { &mut with } else { &mut without }) += 1;
     }
     assert!(with > 500 && without > 100, "{with} with a record, {without} without");

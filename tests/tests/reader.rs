@@ -31,15 +31,16 @@ fn assert_refused(chip: &Chip, samples: &[u8], room: usize, number: u8) {
     let mut records = vec![0xEE; room];
     let answer = after.call(samples, &mut records);
     assert_eq!(answer, Answer { number, count: 0 });
-    assert_eq!(&after, chip, "a refusal leaves session and banks");
+    assert_eq!(&after, chip, "a refusal leaves session, banks and words");
     assert!(records.iter().all(|&byte| byte == 0xEE), "a refusal leaves the records");
 }
 
 #[test]
 fn the_lowest_number_that_applies_is_given() {
     let scratch = sent(&Order { direction: 0, settings: 0, start: 10, count: 1, data: &[0x3C] });
-    for broken in 1u8..64 {
-        let breaks = |number: u8| broken >> (number - 1) & 1 == 1;
+    let order = [1, 2, 3, 4, 16, 5, 6];
+    for broken in 1u8..128 {
+        let breaks = |number| (0..).zip(order).any(|(i, n)| n == number && broken >> i & 1 == 1);
         let mut chip = Chip::opened(&simple_map(16));
         let mut samples = scratch.clone();
         if breaks(1) {
@@ -54,11 +55,14 @@ fn the_lowest_number_that_applies_is_given() {
         if breaks(4) {
             chip.buffer.push(0);
         }
+        if breaks(16) {
+            chip.words.push(0);
+        }
         if breaks(5) {
             samples[20] |= 0x10;
         }
         let room = if breaks(6) { 6 } else { 7 };
-        assert_refused(&chip, &samples, room, broken.trailing_zeros() as u8 + 1);
+        assert_refused(&chip, &samples, room, order[broken.trailing_zeros() as usize]);
     }
 }
 

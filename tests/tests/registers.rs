@@ -25,7 +25,7 @@ fn a_write_changes_the_masked_bits_of_its_stage() {
         for kind in [2, 3] {
             let mut chip = chip_with([kind, mask, random.byte()]);
             (chip.active[16], chip.buffer[16]) = (random.byte(), random.byte());
-            let before = chip.clone();
+            let mut before = chip.clone();
             let v = random.byte();
             let lines = chip.write(0x0010, &[v]);
 
@@ -42,7 +42,8 @@ fn a_write_changes_the_masked_bits_of_its_stage() {
             let effect = kind - 1;
             assert_eq!(lines, [format!("W 0010 {v:02X} {new:02X} {effect} {moved:02X}")]);
 
-            // Nothing else changed.
+            // Nothing else changed, and the register is touched.
+            before.touch(0x0010);
             match kind {
                 2 => chip.active[16] = old,
                 _ => chip.buffer[16] = old,

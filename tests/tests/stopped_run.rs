@@ -1,9 +1,9 @@
 //! The stopped run of document 01: whatever calls read it, and wherever it is
-//! stopped, both banks end as the book says, and before the raise as the book without
-//! its last step (document 02, Ask 4). The second implementation sends and reads it,
+//! stopped, both banks and the words of touched registers end as the book says, and
+//! before the raise as the book without its last step (document 02, Asks 4 and 7). The second implementation sends and reads it,
 //! call by call beside the library; and the library does all alone.
 
-use couplingnut_tests::book::{book, book_before_the_rise, Banks};
+use couplingnut_tests::book::{book, book_before_the_rise, kept, Kept};
 use couplingnut_tests::calls::{Call, Memory};
 use couplingnut_tests::chip::{sent, Chip};
 use couplingnut_tests::generate::orders::{any_write, chip_at_rest};
@@ -50,6 +50,7 @@ impl Side {
         chip.session = from_bytes(&left.session).expect("the library leaves a session");
         chip.active = left.active;
         chip.buffer = left.buffer;
+        chip.words = left.words;
         records.copy_from_slice(&left.records);
         Answer { number: left.number as u8, count: left.count as usize }
     }
@@ -89,7 +90,7 @@ fn refused_call(random: &mut Random, side: &mut Side, chip: &mut Chip, samples: 
 }
 
 /// What the book has before the raise. An order's own last sample is a rise.
-fn before_the_raise(chip: &Chip, order: &Order, all: &[u8], s: usize) -> Banks {
+fn before_the_raise(chip: &Chip, order: &Order, all: &[u8], s: usize) -> Kept {
     if s < all.len() {
         book_before_the_rise(chip, order, s)
     } else {
@@ -97,15 +98,15 @@ fn before_the_raise(chip: &Chip, order: &Order, all: &[u8], s: usize) -> Banks {
     }
 }
 
-fn assert_banks(chip: &Chip, (active, buffer): &Banks, order: &Order, s: usize) {
-    assert_eq!((&chip.active, &chip.buffer), (active, buffer), "{order:?} at {s}");
+fn assert_kept(chip: &Chip, expected: &Kept, order: &Order, s: usize) {
+    assert_eq!(&kept(chip), expected, "{order:?} at {s}");
 }
 
 /// Runs stopped anywhere, read by lists of calls; the raise is in a call of its own,
 /// or in the last one.
 fn runs_end_as_the_book_says(side: &mut Side, seed: u64) {
     let mut random = Random::new(seed);
-    let (mut changed, mut moved) = (0, 0);
+    let (mut changed, mut moved, mut touched) = (0, 0, 0);
     for _ in 0..20_000 {
         let (settings, start, data) = any_write(&mut random);
         let order = Order { direction: 0, settings, start, count: data.len() as u64, data: &data };
@@ -117,16 +118,18 @@ fn runs_end_as_the_book_says(side: &mut Side, seed: u64) {
         let (first, rest) = all[..s].split_at(if random.coin() { s } else { 0 });
         read_by_calls(&mut random, side, &mut chip, first);
         let waiting = before_the_raise(&before, &order, &all, first.len());
-        assert_banks(&chip, &waiting, &order, first.len());
+        assert_kept(&chip, &waiting, &order, first.len());
         read_by_calls(&mut random, side, &mut chip, &[rest, &[raise]].concat());
 
-        assert_banks(&chip, &book(&before, &order, s), &order, s);
+        assert_kept(&chip, &book(&before, &order, s), &order, s);
         assert_eq!((chip.session.phase, chip.session.armed), (Phase::Rest, false));
         changed += usize::from(before.active != chip.active || before.buffer != chip.buffer);
         moved += usize::from(chip.active != book_before_the_rise(&before, &order, s).0);
+        touched += usize::from(before.words != chip.words);
     }
     assert!(changed > 4_000, "only {changed} runs changed a bank");
     assert!(moved > 1_000, "only {moved} runs moved a byte at the rise");
+    assert!(touched > 2_000, "only {touched} runs touched a register");
 }
 
 /// Every stop of a few runs, so that no boundary is left to chance.
@@ -141,9 +144,9 @@ fn stops_end_as_the_book_says(side: &mut Side, seed: u64) {
             let mut stopped = chip.clone();
             let mut records = [0; RECORD * 13];
             assert_eq!(side.call(&mut stopped, &all[..s], &mut records).number, 0);
-            assert_banks(&stopped, &before_the_raise(&chip, &order, &all, s), &order, s);
+            assert_kept(&stopped, &before_the_raise(&chip, &order, &all, s), &order, s);
             assert_eq!(side.call(&mut stopped, &[CSB], &mut records).number, 0);
-            assert_banks(&stopped, &book(&chip, &order, s), &order, s);
+            assert_kept(&stopped, &book(&chip, &order, s), &order, s);
 
             let mut at_once = chip.clone();
             let samples = [&all[..s], &[CSB]].concat();

@@ -12,13 +12,13 @@ use Rattle.run.specs.Reading.{World}
 use Rattle.reader.specs.Calls.{Opening, opening, outcome, readOf}
 use Rattle.benchmark.specs.Fresh.{left, leftBy, readFrom}
 
-module _ (c : Chip) (m : List ℕ) (o : Opening) (samples records : List ℕ) (n : ℕ) (s : Session) (b : Banks) (opened : opening n s b ≡ o) where
-  pub refused : n ≢ 0 → left n 0 b records ≡ readFrom c m o samples records
+module _ (c : Chip) (m : List ℕ) (o : Opening) (ws samples records : List ℕ) (n : ℕ) (s : Session) (b : Banks) (opened : opening n s b ≡ o) where
+  pub refused : n ≢ 0 → left n 0 b ws records ≡ readFrom c m o ws samples records
   unfolding readFrom
   refused z = rw (sym opened) (no _ (ne-eqb n 0 z) refl)
 
   pub read-on : n ≡ 0 → (k : ℕ) (w : World) (count : ℕ) (new : List ℕ)
-      → outcome k w count new ≡ readOf c m (record { session = s; banks = b }) samples records
-      → left k count (w .banks) new ≡ readFrom c m o samples records
+      → outcome k w count new ≡ readOf c m (record { session = s; banks = b; touched = ws }) samples records
+      → left k count (w .banks) (w .touched) new ≡ readFrom c m o ws samples records
   unfolding readFrom
   read-on z k w count new e = rw (sym opened) (yes _ (eq-eqb n 0 z) (ap leftBy e))

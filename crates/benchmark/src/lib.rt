@@ -16,18 +16,28 @@ fn read_fresh(
     map: &[u8],
     active: &mut [u8],
     buffer: &mut [u8],
+    words: &mut [u64],
     samples: &[u8],
     records: &mut [u8],
     count: &mut u64,
 ) -> u32
-    ensures { λ r. ⌜ left r (now (count .exit)) (banks (now (active .exit)) (now (buffer .exit))) (now (records .exit)) ≡ readFrom chip (now (map .entry)) (openOf chip (now (map .entry)) (banks (now (active .entry)) (now (buffer .entry)))) (now (samples .entry)) (now (records .entry)) ⌝ }
+    ensures { λ r. ⌜ left r (now (count .exit)) (banks (now (active .exit)) (now (buffer .exit))) (now (words .exit)) (now (records .exit)) ≡ readFrom chip (now (map .entry)) (openOf chip (now (map .entry)) (banks (now (active .entry)) (now (buffer .entry)))) (now (words .entry)) (now (samples .entry)) (now (records .entry)) ⌝ }
 {
     let opened = open_on(chip, map, active, buffer);
     if opened.number != 0 {
         *count = 0;
         return opened.number as u32;
     }
-    let answer = read_on(chip, map, opened.session, active, buffer, samples, records);
+    let answer = read_on(
+        chip,
+        map,
+        opened.session,
+        active,
+        buffer,
+        words,
+        samples,
+        records,
+    );
     *count = answer.count as u64;
     answer.number as u32
 }
@@ -38,13 +48,23 @@ pub extern "C" fn benchmark_read(
     map: &[u8],
     active: &mut [u8],
     buffer: &mut [u8],
+    words: &mut [u64],
     samples: &[u8],
     records: &mut [u8],
     count: &mut u64,
 ) -> u32
-    ensures { λ r. ⌜ left r (now (count .exit)) (banks (now (active .exit)) (now (buffer .exit))) (now (records .exit)) ≡ readFrom Newer (now (map .entry)) (openOf Newer (now (map .entry)) (banks (now (active .entry)) (now (buffer .entry)))) (now (samples .entry)) (now (records .entry)) ⌝ }
+    ensures { λ r. ⌜ left r (now (count .exit)) (banks (now (active .exit)) (now (buffer .exit))) (now (words .exit)) (now (records .exit)) ≡ readFrom Newer (now (map .entry)) (openOf Newer (now (map .entry)) (banks (now (active .entry)) (now (buffer .entry)))) (now (words .entry)) (now (samples .entry)) (now (records .entry)) ⌝ }
 {
-    read_fresh(Chip::Newer, map, active, buffer, samples, records, count)
+    read_fresh(
+        Chip::Newer,
+        map,
+        active,
+        buffer,
+        words,
+        samples,
+        records,
+        count,
+    )
 }
 
 // The same of an AD9557 with the highest address that it has.
@@ -54,15 +74,16 @@ pub extern "C" fn benchmark_read_older(
     map: &[u8],
     active: &mut [u8],
     buffer: &mut [u8],
+    words: &mut [u64],
     samples: &[u8],
     records: &mut [u8],
     count: &mut u64,
 ) -> u32
-    ensures { λ r. ⌜ left r (now (count .exit)) (banks (now (active .exit)) (now (buffer .exit))) (now (records .exit)) ≡ readFrom (Older Ad9557 top) (now (map .entry)) (openOf (Older Ad9557 top) (now (map .entry)) (banks (now (active .entry)) (now (buffer .entry)))) (now (samples .entry)) (now (records .entry)) ⌝ }
+    ensures { λ r. ⌜ left r (now (count .exit)) (banks (now (active .exit)) (now (buffer .exit))) (now (words .exit)) (now (records .exit)) ≡ readFrom (Older Ad9557 top) (now (map .entry)) (openOf (Older Ad9557 top) (now (map .entry)) (banks (now (active .entry)) (now (buffer .entry)))) (now (words .entry)) (now (samples .entry)) (now (records .entry)) ⌝ }
 {
     let chip = Chip::Older {
         part: Part::Ad9557,
         top: top,
     };
-    read_fresh(chip, map, active, buffer, samples, records, count)
+    read_fresh(chip, map, active, buffer, words, samples, records, count)
 }

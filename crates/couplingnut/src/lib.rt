@@ -15,6 +15,9 @@ ghost use Rattle.sender.specs.Calls.{sending, sendOf};
 ghost use Rattle.setup.specs.Calls.{setupOf};
 ghost use Rattle.frames.specs.Calls.{making, makeOf};
 ghost use Rattle.hostcalls.specs.Calls.{opening, openOf, outcome, readOf, next, nextOf};
+
+mod touched_words;
+
 use chip::Chip;
 use chip::Part;
 use convert::to_version_1;
@@ -144,11 +147,12 @@ pub extern "C" fn couplingnut_read(
     session: &mut [u8; SIZE],
     active: &mut [u8],
     buffer: &mut [u8],
+    words: &mut [u64],
     samples: &[u8],
     records: &mut [u8],
     count: &mut u64,
 ) -> u32
-    ensures { λ r. ⌜ outcome r (now (session .exit)) (banks (now (active .exit)) (now (buffer .exit))) (now (count .exit)) (now (records .exit)) ≡ readOf Newer (now (map .entry)) (now (session .entry)) (banks (now (active .entry)) (now (buffer .entry))) (now (samples .entry)) (now (records .entry)) ⌝ }
+    ensures { λ r. ⌜ outcome r (now (session .exit)) (banks (now (active .exit)) (now (buffer .exit))) (now (words .exit)) (now (count .exit)) (now (records .exit)) ≡ readOf Newer (now (map .entry)) (now (session .entry)) (banks (now (active .entry)) (now (buffer .entry))) (now (words .entry)) (now (samples .entry)) (now (records .entry)) ⌝ }
 {
     read(
         Chip::Newer,
@@ -156,6 +160,7 @@ pub extern "C" fn couplingnut_read(
         session,
         active,
         buffer,
+        words,
         samples,
         records,
         count,
@@ -170,17 +175,28 @@ pub extern "C" fn couplingnut_read_ad9557(
     session: &mut [u8; SIZE],
     active: &mut [u8],
     buffer: &mut [u8],
+    words: &mut [u64],
     samples: &[u8],
     records: &mut [u8],
     count: &mut u64,
 ) -> u32
-    ensures { λ r. ⌜ outcome r (now (session .exit)) (banks (now (active .exit)) (now (buffer .exit))) (now (count .exit)) (now (records .exit)) ≡ readOf (Older Ad9557 top) (now (map .entry)) (now (session .entry)) (banks (now (active .entry)) (now (buffer .entry))) (now (samples .entry)) (now (records .entry)) ⌝ }
+    ensures { λ r. ⌜ outcome r (now (session .exit)) (banks (now (active .exit)) (now (buffer .exit))) (now (words .exit)) (now (count .exit)) (now (records .exit)) ≡ readOf (Older Ad9557 top) (now (map .entry)) (now (session .entry)) (banks (now (active .entry)) (now (buffer .entry))) (now (words .entry)) (now (samples .entry)) (now (records .entry)) ⌝ }
 {
     let chip = Chip::Older {
         part: Part::Ad9557,
         top: top,
     };
-    read(chip, map, session, active, buffer, samples, records, count)
+    read(
+        chip,
+        map,
+        session,
+        active,
+        buffer,
+        words,
+        samples,
+        records,
+        count,
+    )
 }
 
 // The same for the AD9508.
@@ -191,17 +207,28 @@ pub extern "C" fn couplingnut_read_ad9508(
     session: &mut [u8; SIZE],
     active: &mut [u8],
     buffer: &mut [u8],
+    words: &mut [u64],
     samples: &[u8],
     records: &mut [u8],
     count: &mut u64,
 ) -> u32
-    ensures { λ r. ⌜ outcome r (now (session .exit)) (banks (now (active .exit)) (now (buffer .exit))) (now (count .exit)) (now (records .exit)) ≡ readOf (Older Ad9508 top) (now (map .entry)) (now (session .entry)) (banks (now (active .entry)) (now (buffer .entry))) (now (samples .entry)) (now (records .entry)) ⌝ }
+    ensures { λ r. ⌜ outcome r (now (session .exit)) (banks (now (active .exit)) (now (buffer .exit))) (now (words .exit)) (now (count .exit)) (now (records .exit)) ≡ readOf (Older Ad9508 top) (now (map .entry)) (now (session .entry)) (banks (now (active .entry)) (now (buffer .entry))) (now (words .entry)) (now (samples .entry)) (now (records .entry)) ⌝ }
 {
     let chip = Chip::Older {
         part: Part::Ad9508,
         top: top,
     };
-    read(chip, map, session, active, buffer, samples, records, count)
+    read(
+        chip,
+        map,
+        session,
+        active,
+        buffer,
+        words,
+        samples,
+        records,
+        count,
+    )
 }
 
 // Reads samples up to and with the first that gives a record, or all of them, and says how many it read. A refusal says that none
@@ -212,12 +239,13 @@ pub extern "C" fn couplingnut_next_record(
     session: &mut [u8; SIZE],
     active: &mut [u8],
     buffer: &mut [u8],
+    words: &mut [u64],
     samples: &[u8],
     records: &mut [u8],
     count: &mut u64,
     taken: &mut u64,
 ) -> u32
-    ensures { λ r. ⌜ next (outcome r (now (session .exit)) (banks (now (active .exit)) (now (buffer .exit))) (now (count .exit)) (now (records .exit))) (now (taken .exit)) ≡ nextOf Newer (now (map .entry)) (now (session .entry)) (banks (now (active .entry)) (now (buffer .entry))) (now (samples .entry)) (now (records .entry)) ⌝ }
+    ensures { λ r. ⌜ next (outcome r (now (session .exit)) (banks (now (active .exit)) (now (buffer .exit))) (now (words .exit)) (now (count .exit)) (now (records .exit))) (now (taken .exit)) ≡ nextOf Newer (now (map .entry)) (now (session .entry)) (banks (now (active .entry)) (now (buffer .entry))) (now (words .entry)) (now (samples .entry)) (now (records .entry)) ⌝ }
 {
     next_record(
         Chip::Newer,
@@ -225,6 +253,7 @@ pub extern "C" fn couplingnut_next_record(
         session,
         active,
         buffer,
+        words,
         samples,
         records,
         count,
@@ -240,12 +269,13 @@ pub extern "C" fn couplingnut_next_record_ad9557(
     session: &mut [u8; SIZE],
     active: &mut [u8],
     buffer: &mut [u8],
+    words: &mut [u64],
     samples: &[u8],
     records: &mut [u8],
     count: &mut u64,
     taken: &mut u64,
 ) -> u32
-    ensures { λ r. ⌜ next (outcome r (now (session .exit)) (banks (now (active .exit)) (now (buffer .exit))) (now (count .exit)) (now (records .exit))) (now (taken .exit)) ≡ nextOf (Older Ad9557 top) (now (map .entry)) (now (session .entry)) (banks (now (active .entry)) (now (buffer .entry))) (now (samples .entry)) (now (records .entry)) ⌝ }
+    ensures { λ r. ⌜ next (outcome r (now (session .exit)) (banks (now (active .exit)) (now (buffer .exit))) (now (words .exit)) (now (count .exit)) (now (records .exit))) (now (taken .exit)) ≡ nextOf (Older Ad9557 top) (now (map .entry)) (now (session .entry)) (banks (now (active .entry)) (now (buffer .entry))) (now (words .entry)) (now (samples .entry)) (now (records .entry)) ⌝ }
 {
     let chip = Chip::Older {
         part: Part::Ad9557,
@@ -257,6 +287,7 @@ pub extern "C" fn couplingnut_next_record_ad9557(
         session,
         active,
         buffer,
+        words,
         samples,
         records,
         count,
@@ -272,12 +303,13 @@ pub extern "C" fn couplingnut_next_record_ad9508(
     session: &mut [u8; SIZE],
     active: &mut [u8],
     buffer: &mut [u8],
+    words: &mut [u64],
     samples: &[u8],
     records: &mut [u8],
     count: &mut u64,
     taken: &mut u64,
 ) -> u32
-    ensures { λ r. ⌜ next (outcome r (now (session .exit)) (banks (now (active .exit)) (now (buffer .exit))) (now (count .exit)) (now (records .exit))) (now (taken .exit)) ≡ nextOf (Older Ad9508 top) (now (map .entry)) (now (session .entry)) (banks (now (active .entry)) (now (buffer .entry))) (now (samples .entry)) (now (records .entry)) ⌝ }
+    ensures { λ r. ⌜ next (outcome r (now (session .exit)) (banks (now (active .exit)) (now (buffer .exit))) (now (words .exit)) (now (count .exit)) (now (records .exit))) (now (taken .exit)) ≡ nextOf (Older Ad9508 top) (now (map .entry)) (now (session .entry)) (banks (now (active .entry)) (now (buffer .entry))) (now (words .entry)) (now (samples .entry)) (now (records .entry)) ⌝ }
 {
     let chip = Chip::Older {
         part: Part::Ad9508,
@@ -289,6 +321,7 @@ pub extern "C" fn couplingnut_next_record_ad9508(
         session,
         active,
         buffer,
+        words,
         samples,
         records,
         count,

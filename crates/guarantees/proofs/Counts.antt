@@ -8,12 +8,12 @@ use lib.Dec.{leb}
 use lib.ListN.{length, take}
 use borrow.Author.Tests.{leb-true, leb-false}
 use Rattle.chip.specs.declared.Chip.{Chip}
-use Rattle.records.specs.BanksAfter.{banksAfter, armedAfter}
+use Rattle.records.specs.BanksAfter.{banksAfter, armedAfter, touchedAfter}
 use Rattle.run.specs.Reading.{World, runOf}
 use Rattle.order.specs.Order.{Order, RunByte, isRead, goesUp, isSingle, sentBytes, runBytes}
 use Rattle.order.proofs.Laws.{length-run-from, length-sent, length-counted, admitted}
 use Rattle.guarantees.specs.AtRest.{AtRest, Accepted}
-use Rattle.guarantees.specs.Book.{wholeAfter, wholeBytes, wholeRun, writeAll, armedAll}
+use Rattle.guarantees.specs.Book.{wholeAfter, wholeBytes, wholeRun, writeAll, armedAll, touchedAll}
 use Rattle.guarantees.specs.Counts.{SampleCount, WholeByte, WholeEffect}
 use Rattle.guarantees.proofs.Events.{Held, heldIn, heldOn, run-held}
 use Rattle.guarantees.proofs.Runs.{wholeOf}
@@ -50,15 +50,20 @@ whole-byte c o s i first last =
 
 -- whole bytes of a write, one after the other
 held-written : (c : Chip) (m : List ℕ) (h : Held) (ps : List RunByte)
-    → foldl (heldOn c m) h (map (wholeOf false) ps) ≡ record { armed = armedAll c m ps (h .banks) (h .armed); banks = writeAll c m ps (h .banks) }
-unfolding banksAfter armedAfter writeAll armedAll
+    → foldl (heldOn c m) h (map (wholeOf false) ps)
+    ≡ record { armed = armedAll c m ps (h .banks) (h .armed); banks = writeAll c m ps (h .banks); touched = touchedAll c m ps (h .banks) (h .touched) }
+unfolding banksAfter armedAfter touchedAfter writeAll armedAll touchedAll
 held-written c m h [] = refl
 held-written c m h (p ∷ ps) = held-written c m (heldOn c m h (wholeOf false p)) ps
 
 -- what a write leaves before the raise
 pub run-written : (c : Chip) (m : List ℕ) (w : World) (o : Order) (room s : ℕ) → AtRest c m w o → Accepted c o room → isRead o ≡ false
     → heldIn (runOf c m w (take s (unraised c o)))
-    ≡ record { armed = armedAll c m (wholeRun c o s) (w .banks) (w .session .armed); banks = writeAll c m (wholeRun c o s) (w .banks) }
+    ≡ record {
+      armed = armedAll c m (wholeRun c o s) (w .banks) (w .session .armed);
+      banks = writeAll c m (wholeRun c o s) (w .banks);
+      touched = touchedAll c m (wholeRun c o s) (w .banks) (w .touched);
+    }
 run-written c m w o room s rest accepted write =
     run-held c m w (take s (unraised c o))
     ∙ ap (foldl (heldOn c m) (heldIn w)) (order-events c m w o room rest accepted s)

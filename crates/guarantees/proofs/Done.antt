@@ -15,9 +15,9 @@ use Rattle.session.specs.State.{soundSession}
 use Rattle.session.specs.Event.{eventOf}
 use Rattle.registers.specs.Banks.{Banks, Mapped}
 use Rattle.run.specs.Reading.{World, worldAfter, runOf, recordCount}
-use Rattle.refusals.specs.Numbers.{samplesGood, banksFit, readNumber}
+use Rattle.refusals.specs.Numbers.{samplesGood, banksFit, wordsFit, readNumber}
 use Rattle.refusals.proofs.Laws.{fits-mapped}
-use Rattle.records.proofs.Laws.{mapped-after}
+use Rattle.records.proofs.Laws.{mapped-after, length-after}
 use Rattle.records.proofs.Arming.{sound-kept}
 use Rattle.order.specs.Order.{Order}
 use Rattle.order.specs.Samples.{clocked, orderBits, samplesOf}
@@ -28,6 +28,7 @@ use Rattle.guarantees.specs.AtRest.{AtRest, Accepted}
 pub record Sound (c : Chip) (m : List ℕ) (w : World) : Type 0 where
   pub session-sound : soundSession c (w .session) ≡ true
   pub mapped : Mapped m (w .banks)
+  pub words : wordsFit m (w .touched) ≡ true
 
 pub sound-run : (c : Chip) (m : List ℕ) (w : World) (xs : List ℕ) → soundSession c (w .session) ≡ true → soundSession c (runOf c m w xs .session) ≡ true
 unfolding runOf
@@ -42,6 +43,7 @@ run-sound c m w (x ∷ xs) h =
     (record {
       session-sound = sound-kept c m (w .session) (w .banks) x (h .session-sound);
       mapped = mapped-after c m (w .session .armed) (w .banks) (eventOf c (w .session .port) x) (h .mapped);
+      words = rw (length-after c m (w .touched) (w .banks) (eventOf c (w .session .port) x)) (h .words);
     })
 
 -- the bank sizes, as the reader tests them
@@ -60,6 +62,7 @@ no-refusal c m w xs room good top h fine few enough =
       good,
       mapped-fits m (w .banks) (h .mapped),
       top,
+      h .words,
       fine,
       le-leb (length xs) 65536 few,
       le-leb (recordSize * recordCount c (w .session .port) xs) room enough,
@@ -68,7 +71,7 @@ no-refusal c m w xs room good top h fine few enough =
 -- a session at rest, with its banks
 pub rest-sound : (c : Chip) (m : List ℕ) (w : World) (o : Order) → AtRest c m w o → Sound c m w
 rest-sound c m w o rest =
-    record { session-sound = rest .sound; mapped = fits-mapped m (w .banks) (rest .bank-sizes) }
+    record { session-sound = rest .sound; mapped = fits-mapped m (w .banks) (rest .bank-sizes); words = rest .words }
 
 -- ---- the samples are good, and few
 

@@ -20,7 +20,7 @@ use Rattle.session.specs.Event.{bitEvent, endEvent, eventOf}
 use Rattle.session.proofs.Laws.{entered-settings}
 use Rattle.registers.specs.Banks.{Banks}
 use Rattle.records.specs.Records.{recordOf, recordsIn}
-use Rattle.records.specs.BanksAfter.{banksAfter, armedAfter}
+use Rattle.records.specs.BanksAfter.{banksAfter, armedAfter, touchedAfter}
 use Rattle.run.specs.Reading.{World, worldAfter, runOf, recordsOf, recordCount}
 
 -- an event is noted unless it is nothing
@@ -58,19 +58,24 @@ run-fold c m f part still moves w (x ∷ xs) =
     ∙ ap (λ a. foldl f a more) (moves w x)
     ∙ noted-fold f still (part w) (eventOf c (w .session .port) x) more
 
--- the banks, and whether the session is armed
+-- the banks, the words of touched registers, and whether the session is armed
 pub record Held : Type 0 where
   pub armed : Bool
   pub banks : Banks
+  pub touched : List ℕ
 
 abbrev pub heldIn : World → Held
-heldIn w = record { armed = w .session .armed; banks = w .banks }
+heldIn w = record { armed = w .session .armed; banks = w .banks; touched = w .touched }
 
 abbrev pub heldOn : Chip → List ℕ → Held → Event → Held
-heldOn c m h e = record { armed = armedAfter c m (h .armed) (h .banks) e; banks = banksAfter c m (h .armed) (h .banks) e }
+heldOn c m h e = record {
+  armed = armedAfter c m (h .armed) (h .banks) e;
+  banks = banksAfter c m (h .armed) (h .banks) e;
+  touched = touchedAfter c m (h .touched) (h .banks) e;
+}
 
 pub run-held : (c : Chip) (m : List ℕ) (w : World) (xs : List ℕ) → heldIn (runOf c m w xs) ≡ foldl (heldOn c m) (heldIn w) (eventsOf c (w .session .port) xs)
-unfolding banksAfter armedAfter
+unfolding banksAfter armedAfter touchedAfter
 run-held c m w xs = run-fold c m (heldOn c m) heldIn (λ h. refl) (λ w x. refl) w xs
 
 -- ---- the settings
@@ -141,7 +146,7 @@ recordsBy c m h t (e ∷ es) = recordOf c m (h .banks) t e ++ recordsBy c m (hel
 noted-records :
     (c : Chip) (m : List ℕ) (h : Held) (t : Settings) (e : Event) (es : List Event)
     → recordOf c m (h .banks) t e ++ recordsBy c m (heldOn c m h e) (settingsOn c t e) es ≡ recordsBy c m h t (noted e es)
-unfolding recordsBy banksAfter armedAfter recordOf
+unfolding recordsBy banksAfter armedAfter touchedAfter recordOf
 noted-records c m h t Nothing es = refl
 noted-records c m h t (Whole read a v) es = refl
 noted-records c m h t (Aborted a bits inData) es = refl

@@ -34,7 +34,7 @@ unmoved : (c : Chip) (m : List ℕ) (w : World) (o : Order) (room s raise : ℕ)
 unfolding bookOf riseBanks
 unmoved c m w o room s raise calls run (unraised early read) = before-raise c m w o room s raise calls run early read
 unmoved c m w o room s raise calls run (still none read) =
-    stopped-run c m w o room s raise calls run read
+    stopped-run c m w o room s raise calls run read .0
     ∙ rw (armed-all c m (wholeRun c o s) (w .banks) false (clear-whole c o s (run .clear)), none) refl
 
 pub kept-in-force : KeptInForce
@@ -55,12 +55,12 @@ in-force-at-raise c m w o room s raise calls a run read kind moves =
     let whole = writeAll c m (wholeRun c o s) (w .banks) in
     let moved : riseBanks c m (armedAll c m (wholeRun c o s) (w .banks) false) whole ≡ transferred m whole =
     rw (armed-all c m (wholeRun c o s) (w .banks) false (clear-whole c o s (run .clear)), moves, and-right (anyBuffered m (wholeRun c o s)) (movesAtRise c m) moves) refl in
-    ap (inForce a) (stopped-run c m w o room s raise calls run read ∙ moved)
+    ap (inForce a) (stopped-run c m w o room s raise calls run read .0 ∙ moved)
     ∙ transferred-at c m a kind whole (mapped-all c m (wholeRun c o s) (w .banks) (rest-sound c m w o (run .start) .mapped))
 
 pub broken-byte : BrokenByte
 unfolding bookOf
 broken-byte c m w o room s s' raise calls calls' run same read read' =
-    stopped-run c m w o room s raise calls run read
+    stopped-run c m w o room s raise calls run read .0
     ∙ ap (λ (k : ℕ). riseBanks c m (armedAll c m (take k (runBytes c o)) (w .banks) false) (writeAll c m (take k (runBytes c o)) (w .banks))) same
-    ∙ sym (stopped-run c m w o room s' raise calls' run read')
+    ∙ sym (stopped-run c m w o room s' raise calls' run read' .0)

@@ -22,7 +22,7 @@ use Rattle.writing.specs.Effect.{controlEffect, effectOf}
 use Rattle.writing.specs.Write.{applied, writeBanks, writtenBy}
 use Rattle.writing.specs.Rise.{armedBy, riseBanks}
 use Rattle.records.specs.Records.{recordOf}
-use Rattle.records.specs.BanksAfter.{banksAfter, armedAfter}
+use Rattle.records.specs.BanksAfter.{banksAfter, armedAfter, touchedAfter}
 use Rattle.run.specs.Reading.{runOf, recordsOf}
 use Rattle.order.specs.Order.{runFrom}
 use Rattle.order.specs.Number.{configuresEarly, sendNumber}
@@ -43,7 +43,7 @@ lengths-of version n m good v e =
 pub known-results : KnownResults
 unfolding bitAt merged every turned isMirror countOf headOf entryAt kindRule placeRule entryGood entriesGood mapNumber
     newerAfter newerReading entered withInstructionBit withDataBit stepOf bitEvent endEvent eventOf
-    defaultsFrom defaultBanks transferFrom transferred controlEffect effectOf applied writeBanks writtenBy dueByte recordOf banksAfter armedAfter armedBy riseBanks runOf recordsOf
+    defaultsFrom defaultBanks transferFrom transferred controlEffect effectOf applied writeBanks writtenBy dueByte recordOf banksAfter armedAfter touchedAfter armedBy riseBanks runOf recordsOf
     runFrom highFirst lowFirst bitsOf byteBits runBits orderBits clocked samplesOf allSamples configuresEarly sendNumber
 known-results = record {
   maps-16 = record { good = refl; in-version = refl; registers = refl; lengths = lengths-of 1 16 };

@@ -13,7 +13,7 @@ use Rattle.writing.specs.Effect.{controlEffect, effectOf}
 use Rattle.writing.specs.Write.{applied, writeBanks, writtenBy}
 use Rattle.writing.specs.Rise.{armedBy, riseBanks}
 use Rattle.records.specs.Records.{recordOf}
-use Rattle.records.specs.BanksAfter.{banksAfter, armedAfter}
+use Rattle.records.specs.BanksAfter.{banksAfter, armedAfter, touchedAfter}
 use Rattle.run.specs.Reading.{runOf, recordsOf}
 use Rattle.order.specs.Order.{runFrom}
 use Rattle.order.specs.Number.{configuresEarly, upTo, sendNumber}
@@ -23,7 +23,7 @@ use Rattle.guarantees.specs.KnownOlder.{OlderResults}
 pub older-results : OlderResults
 unfolding bitAt merged every countOf headOf entryAt kindRule placeRule entryGood entriesGood mapNumber mapTestNumber
     olderAfter olderReading entered withInstructionBit withDataBit stepOf bitEvent endEvent eventOf
-    defaultsFrom defaultBanks transferFrom transferred controlEffect effectOf applied writeBanks writtenBy dueByte recordOf banksAfter armedAfter armedBy riseBanks runOf recordsOf
+    defaultsFrom defaultBanks transferFrom transferred controlEffect effectOf applied writeBanks writtenBy dueByte recordOf banksAfter armedAfter touchedAfter armedBy riseBanks runOf recordsOf
     runFrom highFirst lowFirst bitsOf byteBits runBits orderBits clocked samplesOf configuresEarly upTo sendNumber
 older-results = record {
   good = refl;

@@ -20,3 +20,4 @@ pub mod Runs
 pub mod SameMap
 pub mod SetupReadBack
 pub mod StoppedRun
+pub mod Touched

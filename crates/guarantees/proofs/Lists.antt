@@ -63,7 +63,7 @@ badCall = record { samples = 0x10 ∷ []; records = [] }
 
 bad-refused : (c : Chip) (m : List ℕ) (w : World) (o : Order) → AtRest c m w o → isDone c m w badCall ≡ false
 unfolding readOf readNumber samplesGood
-bad-refused c m w o rest = rw (rest .sound, rest .good-map, rest .bank-sizes, rest .top)
+bad-refused c m w o rest = rw (rest .sound, rest .good-map, rest .bank-sizes, rest .top, rest .words)
 
 pub lists-exist : ListsExist
 unfolding afterCalls joined

@@ -23,7 +23,7 @@ use Rattle.session.proofs.Form.{Form, rests, instructs, has-data, stalls, passe
 use Rattle.registers.specs.Banks.{Banks}
 use Rattle.writing.specs.Rise.{riseBanks}
 use Rattle.records.specs.Records.{recordsIn}
-use Rattle.records.specs.BanksAfter.{banksAfter, armedAfter}
+use Rattle.records.specs.BanksAfter.{banksAfter, armedAfter, touchedAfter}
 use Rattle.records.proofs.Arming.{end-event, end-disarms, sound-kept}
 use Rattle.run.specs.Reading.{World, worldAfter, runOf}
 use Rattle.guarantees.proofs.Events.{settingsOn}
@@ -97,6 +97,13 @@ module _ (raise : ℕ) (raised : csbOf raise ≡ true) where
           × (armedAfter c m (s .armed) b (eventOf c (s .port) raise) ≡ false)
       by true n = rw (end-event c (s .port) raise n) (end-moves c m (s .armed) b (s .port), end-disarms c m (s .armed) b (s .port))
       by false n = rw (raise-nothing c (s .port) n, disarmed c s h n) (refl, refl)
+
+  pub raise-touches-none : (c : Chip) (m : List ℕ) (w : World) → worldAfter c m w raise .touched ≡ w .touched
+  unfolding touchedAfter endEvent
+  raise-touches-none c m w = raise-event c (w .session .port) Same refl (each Same (eqb (w .session .port .bits) 0) (λ e. refl) (λ e. refl))
+    where
+      Same : Event → Type 0
+      Same e = touchedAfter c m (w .touched) (w .banks) e ≡ w .touched
 
   module _ (c : Chip) (m : List ℕ) (w : World) (sound : soundSession c (w .session) ≡ true) where
     pub raise-banks : worldAfter c m w raise .banks ≡ riseBanks c m (w .session .armed) (w .banks)

@@ -16,7 +16,7 @@ use Rattle.session.specs.State.{resting, soundSession}
 use Rattle.session.specs.Event.{eventOf}
 use Rattle.writing.specs.Rise.{riseBanks}
 use Rattle.records.specs.Records.{recordOf}
-use Rattle.records.specs.BanksAfter.{banksAfter, armedAfter}
+use Rattle.records.specs.BanksAfter.{banksAfter, armedAfter, touchedAfter}
 use Rattle.records.proofs.Laws.{record-size}
 use Rattle.run.specs.Reading.{World, worldAfter, runOf, recordsOf, recordCount}
 use Rattle.refusals.specs.Numbers.{readNumber}
@@ -24,8 +24,8 @@ use Rattle.reader.specs.Calls.{readOf}
 use Rattle.order.specs.Order.{Order, RunByte, isRead, isSingle, runBytes}
 use Rattle.order.specs.Samples.{clocked, orderBits, samplesOf}
 use Rattle.guarantees.specs.AtRest.{AtRest, Accepted}
-use Rattle.guarantees.specs.Book.{wholeBytes, armedAll}
-use Rattle.guarantees.specs.ReadBack.{settingsPast, settingsLeft, banksLeft, banksRaised, recordsLeft, ReadBack}
+use Rattle.guarantees.specs.Book.{wholeBytes, armedAll, touchedAll}
+use Rattle.guarantees.specs.ReadBack.{settingsPast, settingsLeft, banksLeft, banksRaised, touchedLeft, recordsLeft, ReadBack}
 use Rattle.guarantees.proofs.Events.{eventsOf, settingsOn, settings-step, Held, heldIn, heldOn, recordsBy, recordsAmong, run-held, run-settings, run-records, run-count}
 use Rattle.guarantees.proofs.Runs.{wholeOf}
 use Rattle.guarantees.proofs.Orders.{unraised, raised-last, order-events}
@@ -33,14 +33,18 @@ use Rattle.guarantees.proofs.Ending.{end-rests, none-left, end-no-recor
 use Rattle.guarantees.proofs.Counts.{run-length, sample-count}
 use Rattle.guarantees.proofs.Calls.{run-append, records-append, count-append}
 use Rattle.guarantees.proofs.Done.{sound-run, rest-sound, no-refusal, good-samples, few-samples}
-use Rattle.guarantees.proofs.Raise.{rest-disarmed, raise-settings, raise-banks, raise-disarms}
+use Rattle.guarantees.proofs.Raise.{rest-disarmed, raise-settings, raise-banks, raise-touches-none, raise-disarms}
 
 -- ---- what the bytes of a run leave
 
 held-left : (c : Chip) (m : List ℕ) (read : Bool) (h : Held) (ps : List RunByte)
     → foldl (heldOn c m) h (map (wholeOf read) ps)
-    ≡ record { armed = cond read (h .armed) (armedAll c m ps (h .banks) (h .armed)); banks = banksLeft c m read (h .banks) ps }
-unfolding banksAfter armedAfter banksLeft armedAll
+    ≡ record {
+      armed = cond read (h .armed) (armedAll c m ps (h .banks) (h .armed));
+      banks = banksLeft c m read (h .banks) ps;
+      touched = touchedLeft c m read (h .banks) (h .touched) ps;
+    }
+unfolding banksAfter armedAfter touchedAfter banksLeft armedAll touchedAll
 held-left c m true h [] = refl
 held-left c m true h (p ∷ ps) = held-left c m true (heldOn c m h (wholeOf true p)) ps
 held-left c m false h [] = refl
@@ -140,6 +144,14 @@ module _ (c : Chip) (m : List ℕ) (w : World) (o : Order) (room : ℕ) (rest : 
       ∙ ap (λ (k : Bool). riseBanks c m (cond (isRead o) k (armedAll c m (runBytes c o) (w .banks) k)) (banksLeft c m (isRead o) (w .banks) (runBytes c o)))
       (rest-disarmed c (w .session) (rest .sound) (rest .at-rest))
 
+  pub touched-end : runOf c m w (samplesOf c o) .touched ≡ touchedLeft c m (isRead o) (w .banks) (w .touched) (runBytes c o)
+  unfolding bitAt
+  touched-end =
+      ap (λ (v : World). v .touched) at-end
+      ∙ raise-touches-none 0x01 refl c m before
+      ∙ ap (λ (h : Held). h .touched)
+      (run-held c m w (unraised c o) ∙ ap (foldl (heldOn c m) (heldIn w)) run-whole ∙ held-left c m (isRead o) (heldIn w) (runBytes c o))
+
   pub count-end : recordCount c (w .session .port) (samplesOf c o) ≡ o .count
   unfolding recordCount
   count-end =
@@ -178,7 +190,11 @@ read-back c m o room w records rest accepted enough =
     rw (not-refused c m w o room rest accepted (length records) enough)
     (λ i. record {
       number = 0;
-      world = record { session = session-end c m w o room rest accepted i; banks = banks-end c m w o room rest accepted i };
+      world = record {
+        session = session-end c m w o room rest accepted i;
+        banks = banks-end c m w o room rest accepted i;
+        touched = touched-end c m w o room rest accepted i;
+      };
       count = count-end c m w o room rest accepted i;
       records = filled (records-end c m w o room rest accepted i) records;
     })

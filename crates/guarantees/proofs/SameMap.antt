@@ -20,7 +20,7 @@ use Rattle.writing.specs.declared.Effect.the-variants.{Nothing, Active, Buffer,
 use Rattle.writing.specs.Write.{effectAt, applied, writeBanks}
 use Rattle.writing.specs.Rise.{armedBy, riseBanks}
 use Rattle.records.specs.Records.{recordOf}
-use Rattle.records.specs.BanksAfter.{banksAfter, armedAfter}
+use Rattle.records.specs.BanksAfter.{banksAfter, armedAfter, touchedAfter}
 use Rattle.run.specs.Reading.{World, worldAfter, runOf, recordsOf}
 use Rattle.refusals.specs.Numbers.{openNumber, readNumber}
 use Rattle.reader.specs.Calls.{openOf, readOf}
@@ -94,9 +94,17 @@ module _ (c : Chip) (m m′ : List ℕ) (s : SameRegisters m m′) (f : flagsOf 
   armed-same armed b (event.Aborted a bits inData) = refl
   armed-same armed b event.Ended = refl
 
+  touched-same : (ws : List ℕ) (b : Banks) (e : Event) → touchedAfter c m ws b e ≡ touchedAfter c m′ ws b e
+  unfolding touchedAfter
+  touched-same ws b event.Nothing = refl
+  touched-same ws b (event.Whole read a v) = rw (s .same-entry a)
+  touched-same ws b (event.Aborted a bits inData) = refl
+  touched-same ws b event.Ended = refl
+
   one-same : (w : World) (x : ℕ) → worldAfter c m w x ≡ worldAfter c m′ w x
   one-same w x =
-      rw (after-same (w .session .armed) (w .banks) (eventOf c (w .session .port) x), armed-same (w .session .armed) (w .banks) (eventOf c (w .session .port) x))
+      let e = eventOf c (w .session .port) x in
+      rw (after-same (w .session .armed) (w .banks) e, armed-same (w .session .armed) (w .banks) e, touched-same (w .touched) (w .banks) e)
 
   run-same : (w : World) (xs : List ℕ) → runOf c m w xs ≡ runOf c m′ w xs
   unfolding runOf

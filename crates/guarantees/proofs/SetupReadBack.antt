@@ -31,7 +31,7 @@ use Rattle.guarantees.specs.ReadBack.{settingsLeft}
 use Rattle.guarantees.specs.SetupReadBack.{worldPast, worldLeft, setupRecords, setupBytes, configuresLast, anyOrder, SetupReadBack}
 use Rattle.guarantees.proofs.Calls.{run-append, records-append, count-append}
 use Rattle.guarantees.proofs.Done.{run-sound, rest-sound, mapped-fits, no-refusal, good-append, good-samples}
-use Rattle.guarantees.proofs.ReadBack.{session-end, banks-end, count-end, records-end}
+use Rattle.guarantees.proofs.ReadBack.{session-end, banks-end, touched-end, count-end, records-end}
 
 -- ---- a read, or a write clear of 0x0000 and 0x0001, leaves the settings as they were
 
@@ -94,6 +94,7 @@ same-rest m w o p e r = record {
   at-rest = r .at-rest;
   deselected = r .deselected;
   bank-sizes = r .bank-sizes;
+  words = r .words;
   same-lsb = ap (λ (t : ℕ). bitAt t 0) e ∙ r .same-lsb;
   same-direction = ap (λ (t : ℕ). bitAt t 1) e ∙ r .same-direction;
   same-single = ap (λ (t : ℕ). bitAt t 2) e ∙ r .same-single;
@@ -101,7 +102,11 @@ same-rest m w o p e r = record {
 
 module _ (m : List ℕ) (w : World) (o : Order) (room : ℕ) (rest : AtRest Newer m w o) (accepted : Accepted Newer o room) where
   past : runOf Newer m w (samplesOf Newer o) ≡ worldPast m w o
-  past = λ i. record { session = session-end Newer m w o room rest accepted i; banks = banks-end Newer m w o room rest accepted i }
+  past = λ i. record {
+    session = session-end Newer m w o room rest accepted i;
+    banks = banks-end Newer m w o room rest accepted i;
+    touched = touched-end Newer m w o room rest accepted i;
+  }
 
   rests-again : settingsLeft Newer (isRead o) (w .session .port .settings) (runBytes Newer o) ≡ w .session .port .settings → AtRest Newer m (worldPast m w o) o
   rests-again e =
@@ -113,6 +118,7 @@ module _ (m : List ℕ) (w : World) (o : Order) (room : ℕ) (rest : AtRest Newe
         at-rest = refl;
         deselected = refl;
         bank-sizes = mapped-fits m (worldPast m w o .banks) (s .mapped);
+        words = s .words;
         same-lsb = rest .same-lsb ∙ ap (λ (t : Settings). t .lsb) (sym e);
         same-direction = rest .same-direction ∙ ap (λ (t : Settings). t .ascending) (sym e);
         same-single = rest .same-single ∙ ap (λ (t : Settings). t .single) (sym e);

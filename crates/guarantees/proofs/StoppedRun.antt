@@ -24,15 +24,15 @@ use Rattle.writing.specs.Rise.{riseBanks}
 use Rattle.run.specs.Reading.{World, worldAfter, runOf}
 use Rattle.order.specs.Order.{Order}
 use Rattle.order.specs.Samples.{samplesOf}
-use Rattle.guarantees.specs.Book.{wholeRun, writeAll, armedAll, bookOf}
+use Rattle.guarantees.specs.Book.{wholeRun, writeAll, armedAll, touchedAll, bookOf, touchedBook}
 use Rattle.guarantees.specs.Calls.{afterCalls}
-use Rattle.guarantees.specs.StoppedRun.{stoppedSamples, StoppedRun, BeforeRaise, Stops, rests, stalls, StoppedSession}
+use Rattle.guarantees.specs.StoppedRun.{Run, stoppedSamples, StoppedRun, BeforeRaise, Stops, rests, stalls, StoppedSession}
 use Rattle.guarantees.proofs.Events.{Held}
 use Rattle.guarantees.proofs.Calls.{run-append, calls-run}
 use Rattle.guarantees.proofs.Orders.{unraised, raised-last}
 use Rattle.guarantees.proofs.Counts.{run-written, whole-effect}
 use Rattle.guarantees.proofs.Done.{sound-run}
-use Rattle.guarantees.proofs.Raise.{rest-disarmed, raise-takes-nothing, raise-banks, raise-disarms, raise-twice}
+use Rattle.guarantees.proofs.Raise.{rest-disarmed, raise-takes-nothing, raise-banks, raise-touches-none, raise-disarms, raise-twice}
 
 -- what the raise leaves of a run stopped after any of its samples: sent whole, its own last sample is the rise, and the raise comes second
 raised-run : (c : Chip) (m : List ℕ) (w : World) (o : Order) (s raise : ℕ) → soundSession c (w .session) ≡ true → csbOf raise ≡ true
@@ -62,14 +62,51 @@ raised-run c m w o s raise h raised = by (decLe s (length (unraised c o)))
         ∙ ap (λ (v : World). v .banks) (run-append c m w (take s (unraised c o)) (0x01 ∷ raise ∷ []))
         ∙ raise-twice c m then 0x01 raise sound refl raised
 
-pub stopped-run : StoppedRun
+stopped-banks : (c : Chip) (m : List ℕ) (w : World) (o : Order) (room s raise : ℕ) → Run c m w o room raise
+    → runOf c m w (stoppedSamples c o s raise) .banks ≡ bookOf c m o s (w .banks)
 unfolding bookOf
-stopped-run c m w o room s raise calls run read =
-    ap (λ (v : World). v .banks) (calls-run c m w calls ∙ ap (runOf c m w) read)
-    ∙ raised-run c m w o s raise (run .start .sound) (run .raised)
+stopped-banks c m w o room s raise run =
+    raised-run c m w o s raise (run .start .sound) (run .raised)
     ∙ ap (λ (h : Held). riseBanks c m (h .armed) (h .banks)) (run-written c m w o room s (run .start) (run .accepted) (run .write))
     ∙ ap (λ (k : Bool). riseBanks c m (armedAll c m (wholeRun c o s) (w .banks) k) (writeAll c m (wholeRun c o s) (w .banks)))
     (rest-disarmed c (w .session) (run .start .sound) (run .start .at-rest))
+
+-- a raise touches no register, and neither does the run's own last sample
+stopped-words : (c : Chip) (m : List ℕ) (w : World) (o : Order) (room s raise : ℕ) → Run c m w o room raise
+    → runOf c m w (stoppedSamples c o s raise) .touched ≡ touchedBook c m o s (w .banks) (w .touched)
+unfolding runOf bitAt touchedBook
+stopped-words c m w o room s raise run = by (decLe s (length (unraised c o)))
+  where
+    then : World
+    then = runOf c m w (take s (unraised c o))
+
+    book : then .touched ≡ touchedAll c m (wholeRun c o s) (w .banks) (w .touched)
+    book = ap (λ (h : Held). h .touched) (run-written c m w o room s (run .start) (run .accepted) (run .write))
+
+    by : Dec (s ≤ length (unraised c o)) → runOf c m w (stoppedSamples c o s raise) .touched ≡ touchedAll c m (wholeRun c o s) (w .banks) (w .touched)
+    by (yes few) =
+        ap (λ (l : List ℕ). runOf c m w (take s l ++ (raise ∷ [])) .touched) (raised-last c o)
+        ∙ ap (λ (l : List ℕ). runOf c m w (l ++ (raise ∷ [])) .touched) (take-append-le s (unraised c o) (0x01 ∷ []) few)
+        ∙ ap (λ (v : World). v .touched) (run-append c m w (take s (unraised c o)) (raise ∷ []))
+        ∙ raise-touches-none raise (run .raised) c m then
+        ∙ book
+    by (no many) =
+        ap (λ (l : List ℕ). runOf c m w (take s l ++ (raise ∷ [])) .touched) (raised-last c o)
+        ∙ ap (λ (l : List ℕ). runOf c m w (l ++ (raise ∷ [])) .touched)
+        (take-all s (unraised c o ++ (0x01 ∷ [])) (omega (arith, length-append (unraised c o) (0x01 ∷ []))))
+        ∙ ap (λ (l : List ℕ). runOf c m w l .touched) (append-assoc (unraised c o) (0x01 ∷ []) (raise ∷ []))
+        ∙ ap (λ (l : List ℕ). runOf c m w (l ++ (0x01 ∷ raise ∷ [])) .touched) (sym (take-all s (unraised c o) (omega arith)))
+        ∙ ap (λ (v : World). v .touched) (run-append c m w (take s (unraised c o)) (0x01 ∷ raise ∷ []))
+        ∙ raise-touches-none raise (run .raised) c m (worldAfter c m then 0x01)
+        ∙ raise-touches-none 0x01 refl c m then
+        ∙ book
+
+pub stopped-run : StoppedRun
+stopped-run c m w o room s raise calls run read =
+    let same = calls-run c m w calls ∙ ap (runOf c m w) read in (
+      ap (λ (v : World). v .banks) same ∙ stopped-banks c m w o room s raise run,
+      ap (λ (v : World). v .touched) same ∙ stopped-words c m w o room s raise run,
+    )
 
 pub before-raise : BeforeRaise
 before-raise c m w o room s raise calls run early read =

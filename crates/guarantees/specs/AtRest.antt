@@ -13,7 +13,7 @@ use Rattle.session.specs.declared.Phase.the-variants.{Rest}
 use Rattle.session.specs.declared.Session.{Session}
 use Rattle.session.specs.State.{soundSession}
 use Rattle.run.specs.Reading.{World}
-use Rattle.refusals.specs.Numbers.{banksFit}
+use Rattle.refusals.specs.Numbers.{banksFit, wordsFit}
 use Rattle.order.specs.Order.{Order, lsbFirst, goesUp, isSingle}
 use Rattle.order.specs.Number.{sendNumber}
 
@@ -21,7 +21,8 @@ use Rattle.order.specs.Number.{sendNumber}
 abbrev pub countingOf : Chip → World → InUse
 countingOf c w = counting c (inUseOf (w .session .port .settings))
 
--- Document 01, "Registers and session": a session at rest is sound and comes with a good map and banks of n bytes; the same
+-- Document 01, "Registers and session": a session at rest is sound and comes with a good map, banks of n bytes and, document 02,
+-- Ask 7, as many words as that takes; the same
 -- settings means that those an order can name agree with it, the others being at will. Document 02, Ask 1: for an older chip the top is
 -- n less 1; its orders name the bit order alone, and that is then the direction. A run that stalls, or is passed over, is not at rest.
 pub record AtRest (c : Chip) (m : List ℕ) (w : World) (o : Order) : Type 0 where
@@ -31,6 +32,7 @@ pub record AtRest (c : Chip) (m : List ℕ) (w : World) (o : Order) : Type 0 whe
   pub at-rest : w .session .port .phase ≡ Rest
   pub deselected : w .session .port .csb ≡ true
   pub bank-sizes : banksFit m (w .banks) ≡ true
+  pub words : wordsFit m (w .touched) ≡ true
   pub same-lsb : lsbFirst o ≡ w .session .port .settings .lsb
   pub same-direction : goesUp c o ≡ countingOf c w .ascending
   pub same-single : isSingle c o ≡ countingOf c w .single

@@ -7,7 +7,8 @@ use lib.Dec.{eqb}
 use Rattle.chip.specs.declared.Chip.{Chip}
 use Rattle.chip.specs.declared.Chip.the-variants.{Newer, Older}
 use Rattle.registers.specs.Banks.{Banks}
-use Rattle.writing.specs.Write.{effectAt, writeBanks}
+use Rattle.touched.specs.Touched.{touchedWords}
+use Rattle.writing.specs.Write.{effectAt, onByte, writeBanks}
 use Rattle.writing.specs.Rise.{armedBy, riseBanks}
 use Rattle.order.specs.Order.{Order, RunByte, isSingle, runBytes}
 use Rattle.order.specs.Number.{isConfiguration}
@@ -31,6 +32,12 @@ armedAll c m [] b armed = armed
 armedAll c m (p ∷ ps) b armed =
     armedAll c m ps (writeBanks c m b (p .address) (p .byte)) (armedBy c m armed (effectAt c m b (p .address) (p .byte)))
 
+-- Document 02, Ask 7: the words of touched registers after them
+unfoldable pub touchedAll : Chip → List ℕ → List RunByte → Banks → List ℕ → List ℕ
+touchedAll c m [] b ws = ws
+touchedAll c m (p ∷ ps) b ws =
+    touchedAll c m ps (writeBanks c m b (p .address) (p .byte)) (cond (onByte (effectAt c m b (p .address) (p .byte))) (touchedWords ws (p .address)) ws)
+
 -- the bytes of a run that are whole after s samples
 abbrev pub wholeRun : Chip → Order → ℕ → List RunByte
 wholeRun c o s = take (wholeBytes c o s) (runBytes c o)
@@ -39,6 +46,10 @@ wholeRun c o s = take (wholeBytes c o s) (runBytes c o)
 -- begins with a session that is not armed.
 unfoldable pub bookOf : Chip → List ℕ → Order → ℕ → Banks → Banks
 bookOf c m o s b = riseBanks c m (armedAll c m (wholeRun c o s) b false) (writeAll c m (wholeRun c o s) b)
+
+-- Ask 7: the book keeps the words too. A broken byte touches nothing, and neither does the rise.
+unfoldable pub touchedBook : Chip → List ℕ → Order → ℕ → Banks → List ℕ → List ℕ
+touchedBook c m o s b ws = touchedAll c m (wholeRun c o s) b ws
 
 -- 0x0000 or 0x0001 of a newer chip; document 02, Ask 1: 0x0000 or 0x0004 of an older one
 abbrev pub setsAnything : Chip → RunByte → Bool

@@ -56,9 +56,9 @@ writeTwo = record { direction = 0; settings = 0; start = 0x0010; count = 2; byte
 abbrev pub writeThousand : ℕ → Order
 writeThousand settings = record { direction = 0; settings = settings; start = 0x0010; count = 1000; bytes = replicate 1000 0x07 }
 
--- a map after opening
+-- a map after opening, and a mark
 abbrev pub opened : List ℕ → World
-opened m = record { session = openedSession; banks = defaultBanks m }
+opened m = record { session = openedSession; banks = defaultBanks m; touched = 0 ∷ [] }
 
 -- the records of some samples after opening
 abbrev pub recordsAfterOpening : List ℕ → List ℕ → List ℕ

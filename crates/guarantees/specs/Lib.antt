@@ -9,3 +9,4 @@ pub mod ReadBack
 pub mod SameMap
 pub mod SetupReadBack
 pub mod StoppedRun
+pub mod Touched

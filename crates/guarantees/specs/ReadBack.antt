@@ -20,7 +20,7 @@ use Rattle.reader.specs.Calls.{Outcome, readOf}
 use Rattle.order.specs.Order.{Order, RunByte, isRead, runBytes}
 use Rattle.order.specs.Samples.{samplesOf}
 use Rattle.guarantees.specs.AtRest.{AtRest, Accepted}
-use Rattle.guarantees.specs.Book.{armedAll}
+use Rattle.guarantees.specs.Book.{armedAll, touchedAll}
 
 -- the settings after a whole byte of a run: a read changes none
 abbrev pub settingsPast : Chip → Bool → Settings → RunByte → Settings
@@ -44,6 +44,10 @@ banksLeft c m read b (p ∷ ps) = banksLeft c m read (banksPast c m read b p) ps
 abbrev pub banksRaised : Chip → List ℕ → Bool → Banks → List RunByte → Banks
 banksRaised c m read b ps = riseBanks c m (cond read false (armedAll c m ps b false)) (banksLeft c m read b ps)
 
+-- Document 02, Ask 7: the words of touched registers that they leave; a read touches none
+abbrev pub touchedLeft : Chip → List ℕ → Bool → Banks → List ℕ → List RunByte → List ℕ
+touchedLeft c m read b ws ps = cond read ws (touchedAll c m ps b ws)
+
 -- their records: one for each byte in order, with its address and its value
 unfoldable pub recordsLeft : Chip → List ℕ → Bool → Banks → Settings → List RunByte → List ℕ
 recordsLeft c m read b t [] = []
@@ -52,13 +56,14 @@ recordsLeft c m read b t (p ∷ ps) =
     ++ recordsLeft c m read (banksPast c m read b p) (settingsPast c read t p) ps
 
 -- What reading a whole run leaves: as many records as the order counts, one for each of its bytes; the banks with these bytes and
--- their rise; and the session at rest again, with the settings that the bytes leave. The line bytes of a read are the zeros that were sent.
+-- their rise; the words with the registers that they touch; and the session at rest again, with the settings that the bytes leave. The line bytes of a read are the zeros that were sent.
 abbrev pub readBackOf : Chip → List ℕ → World → Order → List ℕ → Outcome
 readBackOf c m w o records = record {
   number = 0;
   world = record {
     session = record { port = resting false (settingsLeft c (isRead o) (w .session .port .settings) (runBytes c o)); armed = false };
     banks = banksRaised c m (isRead o) (w .banks) (runBytes c o);
+    touched = touchedLeft c m (isRead o) (w .banks) (w .touched) (runBytes c o);
   };
   count = o .count;
   records = filled (recordsLeft c m (isRead o) (w .banks) (w .session .port .settings) (runBytes c o)) records;

@@ -16,13 +16,14 @@ use Rattle.order.specs.Samples.{allSamples}
 use Rattle.setup.specs.Calls.{ordersOf, setupNumber}
 use Rattle.guarantees.specs.AtRest.{AtRest}
 use Rattle.guarantees.specs.Book.{clearOfSettings}
-use Rattle.guarantees.specs.ReadBack.{settingsLeft, banksRaised, recordsLeft}
+use Rattle.guarantees.specs.ReadBack.{settingsLeft, banksRaised, touchedLeft, recordsLeft}
 
--- the session and the banks that one order leaves
+-- the session, the banks and the words that one order leaves
 abbrev pub worldPast : List ℕ → World → Order → World
 worldPast m w o = record {
   session = record { port = resting false (settingsLeft Newer (isRead o) (w .session .port .settings) (runBytes Newer o)); armed = false };
   banks = banksRaised Newer m (isRead o) (w .banks) (runBytes Newer o);
+  touched = touchedLeft Newer m (isRead o) (w .banks) (w .touched) (runBytes Newer o);
 }
 
 -- those that several orders leave, one after the other

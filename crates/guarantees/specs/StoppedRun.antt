@@ -17,7 +17,7 @@ use Rattle.order.specs.Order.{Order, isRead, runBytes}
 use Rattle.order.specs.Samples.{samplesOf}
 use Rattle.guarantees.specs.AtRest.{AtRest, Accepted}
 use Rattle.guarantees.specs.Calls.{Call, afterCalls, joined}
-use Rattle.guarantees.specs.Book.{wholeRun, writeAll, bookOf, clearOfSettings}
+use Rattle.guarantees.specs.Book.{wholeRun, writeAll, bookOf, touchedBook, clearOfSettings}
 
 -- A write run clear of 0x0000 and 0x0001, or 0x0004 on an older chip, that the sender accepts, for a session at rest, and a sample that
 -- raises the select.
@@ -34,13 +34,14 @@ abbrev pub stoppedSamples : Chip → Order → ℕ → ℕ → List ℕ
 stoppedSamples c o s raise = take s (samplesOf c o) ++ (raise ∷ [])
 
 -- For any such run, stopped after any number s of its samples, and any list of calls whose done ones, joined, are those samples and
--- the raise (refused calls anywhere): both stages at the end are the book's, byte for byte.
+-- the raise (refused calls anywhere): both stages at the end are the book's, byte for byte, and, document 02, Ask 7, so are the words of
+-- touched registers, whatever they were at the start.
 abbrev pub StoppedRun : Type 0
 StoppedRun =
     (c : Chip) (m : List ℕ) (w : World) (o : Order) (room s raise : ℕ) (calls : List Call)
     → Run c m w o room raise
     → joined c m w calls ≡ stoppedSamples c o s raise
-    → afterCalls c m w calls .banks ≡ bookOf c m o s (w .banks)
+    → (afterCalls c m w calls .banks ≡ bookOf c m o s (w .banks)) × (afterCalls c m w calls .touched ≡ touchedBook c m o s (w .banks) (w .touched))
 
 -- Document 02, Ask 4: before the raise, which a run that is sent whole ends with itself, both stages are the book's without the rise.
 abbrev pub BeforeRaise : Type 0

@@ -18,25 +18,25 @@ pub opened : (c : Chip) (m : List ℕ) (b₀ : Banks) {n : ℕ} {s : Session} {b
 unfolding openOf
 opened c m b₀ bytes e o = rw e (ap openingOf o)
 
-module _ (c : Chip) (m s : List ℕ) (act buf xs old : List ℕ) where
+module _ (c : Chip) (m s : List ℕ) (act buf ws xs old : List ℕ) where
   -- bytes that are no session
-  pub no-session : areSession s ≡ false → outcome 1 s (banks act buf) 0 old ≡ readOf c m s (banks act buf) xs old
+  pub no-session : areSession s ≡ false → outcome 1 s (banks act buf) ws 0 old ≡ readOf c m s (banks act buf) ws xs old
   unfolding readOf
   no-session t = no _ t refl
 
-  pub read-bytes : areSession s ≡ true → {given next : Session} → given ≡ sessionOf s → {n count : ℕ} {act′ buf′ new : List ℕ}
-      → reader.outcome n (world next act′ buf′) count new ≡ reader.readOf c m (world given act buf) xs old
-      → (bytes : List ℕ) → bytes ≡ sessionBytes next → outcome n bytes (banks act′ buf′) count new ≡ readOf c m s (banks act buf) xs old
+  pub read-bytes : areSession s ≡ true → {given next : Session} → given ≡ sessionOf s → {n count : ℕ} {act′ buf′ ws′ new : List ℕ}
+      → reader.outcome n (world next act′ buf′ ws′) count new ≡ reader.readOf c m (world given act buf ws) xs old
+      → (bytes : List ℕ) → bytes ≡ sessionBytes next → outcome n bytes (banks act′ buf′) ws′ count new ≡ readOf c m s (banks act buf) ws xs old
   unfolding readOf
   read-bytes t g o bytes e = yes _ t (rw e (ap outcomeOf (rw g at o)))
 
-  pub no-session-next : areSession s ≡ false → next (outcome 1 s (banks act buf) 0 old) 0 ≡ nextOf c m s (banks act buf) xs old
+  pub no-session-next : areSession s ≡ false → next (outcome 1 s (banks act buf) ws 0 old) 0 ≡ nextOf c m s (banks act buf) ws xs old
   unfolding nextOf
   no-session-next t = no _ t refl
 
-  pub next-bytes : areSession s ≡ true → {given after : Session} → given ≡ sessionOf s → {n count taken : ℕ} {act′ buf′ new : List ℕ}
-      → nextrecord.next (reader.outcome n (world after act′ buf′) count new) taken ≡ nextrecord.nextOf c m (world given act buf) xs old
+  pub next-bytes : areSession s ≡ true → {given after : Session} → given ≡ sessionOf s → {n count taken : ℕ} {act′ buf′ ws′ new : List ℕ}
+      → nextrecord.next (reader.outcome n (world after act′ buf′ ws′) count new) taken ≡ nextrecord.nextOf c m (world given act buf ws) xs old
       → (bytes : List ℕ) → bytes ≡ sessionBytes after
-      → next (outcome n bytes (banks act′ buf′) count new) taken ≡ nextOf c m s (banks act buf) xs old
+      → next (outcome n bytes (banks act′ buf′) ws′ count new) taken ≡ nextOf c m s (banks act buf) ws xs old
   unfolding nextOf
   next-bytes t g o bytes e = yes _ t (rw e (ap nextBytes (rw g at o)))

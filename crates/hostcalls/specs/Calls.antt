@@ -25,28 +25,30 @@ openingOf o = opening (o .number) (sessionBytes (o .session)) (o .banks)
 unfoldable pub openOf : Chip → List ℕ → Banks → Opening
 openOf c m b = openingOf (reader.openOf c m b)
 
--- what a call of the reader leaves: the number, the session's bytes, the banks, how many records, and the record buffer
+-- what a call of the reader leaves: the number, the session's bytes, the banks, the words of touched registers, how many records, and the
+-- record buffer
 pub record Outcome : Type 0 where
   pub number : ℕ
   pub session : List ℕ
   pub banks : Banks
+  pub touched : List ℕ
   pub count : ℕ
   pub records : List ℕ
 
-abbrev pub outcome : ℕ → List ℕ → Banks → ℕ → List ℕ → Outcome
-outcome number s b count records = record { number = number; session = s; banks = b; count = count; records = records }
+abbrev pub outcome : ℕ → List ℕ → Banks → List ℕ → ℕ → List ℕ → Outcome
+outcome number s b ws count records = record { number = number; session = s; banks = b; touched = ws; count = count; records = records }
 
 -- the same as the reader leaves, the next session as bytes
 abbrev pub outcomeOf : reader.Outcome → Outcome
-outcomeOf o = outcome (o .number) (sessionBytes (o .world .session)) (o .world .banks) (o .count) (o .records)
+outcomeOf o = outcome (o .number) (sessionBytes (o .world .session)) (o .world .banks) (o .world .touched) (o .count) (o .records)
 
--- the session of bytes, with banks
-abbrev pub worldOf : List ℕ → Banks → World
-worldOf s b = record { session = sessionOf s; banks = b }
+-- the session of bytes, with banks and words
+abbrev pub worldOf : List ℕ → Banks → List ℕ → World
+worldOf s b ws = record { session = sessionOf s; banks = b; touched = ws }
 
 -- A call of the reader. Bytes that are no session are refused with 1, and all is as given.
-unfoldable pub readOf : Chip → List ℕ → List ℕ → Banks → List ℕ → List ℕ → Outcome
-readOf c m s b samples records = cond (areSession s) (outcomeOf (reader.readOf c m (worldOf s b) samples records)) (outcome 1 s b 0 records)
+unfoldable pub readOf : Chip → List ℕ → List ℕ → Banks → List ℕ → List ℕ → List ℕ → Outcome
+readOf c m s b ws samples records = cond (areSession s) (outcomeOf (reader.readOf c m (worldOf s b ws) samples records)) (outcome 1 s b ws 0 records)
 
 -- what a call for the next record leaves: the same, and how many samples were read
 pub record Next : Type 0 where
@@ -60,5 +62,6 @@ abbrev pub nextBytes : nextrecord.Next → Next
 nextBytes n = next (outcomeOf (n .outcome)) (n .taken)
 
 -- A call for the next record. Bytes that are no session are refused as by the reader.
-unfoldable pub nextOf : Chip → List ℕ → List ℕ → Banks → List ℕ → List ℕ → Next
-nextOf c m s b samples records = cond (areSession s) (nextBytes (nextrecord.nextOf c m (worldOf s b) samples records)) (next (outcome 1 s b 0 records) 0)
+unfoldable pub nextOf : Chip → List ℕ → List ℕ → Banks → List ℕ → List ℕ → List ℕ → Next
+nextOf c m s b ws samples records =
+    cond (areSession s) (nextBytes (nextrecord.nextOf c m (worldOf s b ws) samples records)) (next (outcome 1 s b ws 0 records) 0)

@@ -28,7 +28,7 @@ pub fn open(
     opened.number as u32
 }
 
-// Reads samples: the session and the banks that they lead to, and how many records they gave, from the record buffer's start. A
+// Reads samples: the session, the banks and the words that they lead to, and how many records they gave, from the record buffer's start. A
 // refusal says 0 records and leaves all as it was; bytes that are no session are refused with 1.
 pub fn read(
     chip: Chip,
@@ -36,15 +36,16 @@ pub fn read(
     session: &mut [u8; SIZE],
     active: &mut [u8],
     buffer: &mut [u8],
+    words: &mut [u64],
     samples: &[u8],
     records: &mut [u8],
     count: &mut u64,
 ) -> u32
-    ensures { λ r. ⌜ outcome r (now (session .exit)) (banks (now (active .exit)) (now (buffer .exit))) (now (count .exit)) (now (records .exit)) ≡ readOf chip (now (map .entry)) (now (session .entry)) (banks (now (active .entry)) (now (buffer .entry))) (now (samples .entry)) (now (records .entry)) ⌝ }
+    ensures { λ r. ⌜ outcome r (now (session .exit)) (banks (now (active .exit)) (now (buffer .exit))) (now (words .exit)) (now (count .exit)) (now (records .exit)) ≡ readOf chip (now (map .entry)) (now (session .entry)) (banks (now (active .entry)) (now (buffer .entry))) (now (words .entry)) (now (samples .entry)) (now (records .entry)) ⌝ }
 {
     if are_session(session) {
         let given = session_of(session);
-        let answer = read_on(chip, map, given, active, buffer, samples, records);
+        let answer = read_on(chip, map, given, active, buffer, words, samples, records);
         let next = answer.session;
         *session = bytes_of(next);
         *count = answer.count as u64;
@@ -62,16 +63,17 @@ pub fn next_record(
     session: &mut [u8; SIZE],
     active: &mut [u8],
     buffer: &mut [u8],
+    words: &mut [u64],
     samples: &[u8],
     records: &mut [u8],
     count: &mut u64,
     taken: &mut u64,
 ) -> u32
-    ensures { λ r. ⌜ next (outcome r (now (session .exit)) (banks (now (active .exit)) (now (buffer .exit))) (now (count .exit)) (now (records .exit))) (now (taken .exit)) ≡ nextOf chip (now (map .entry)) (now (session .entry)) (banks (now (active .entry)) (now (buffer .entry))) (now (samples .entry)) (now (records .entry)) ⌝ }
+    ensures { λ r. ⌜ next (outcome r (now (session .exit)) (banks (now (active .exit)) (now (buffer .exit))) (now (words .exit)) (now (count .exit)) (now (records .exit))) (now (taken .exit)) ≡ nextOf chip (now (map .entry)) (now (session .entry)) (banks (now (active .entry)) (now (buffer .entry))) (now (words .entry)) (now (samples .entry)) (now (records .entry)) ⌝ }
 {
     if are_session(session) {
         let given = session_of(session);
-        let found = next_on(chip, map, given, active, buffer, samples, records);
+        let found = next_on(chip, map, given, active, buffer, words, samples, records);
         let after = found.session;
         *session = bytes_of(after);
         *count = found.count as u64;

@@ -22,8 +22,8 @@ use Rattle.run.specs.Reading.{World, world, recordCount}
 use Rattle.run.specs.Contracts.{Ready, Ran}
 use Rattle.run.proofs.Bound.{records-bound}
 use Rattle.run.proofs.Laws.{records-size}
-use Rattle.refusals.specs.Numbers.{banksFit, samplesGood, readNumber}
-use Rattle.refusals.proofs.Laws.{ReadTests, read-tests, fits-mapped}
+use Rattle.refusals.specs.Numbers.{banksFit, wordsFit, samplesGood, readNumber}
+use Rattle.refusals.proofs.Laws.{ReadTests, read-tests, fits-mapped, bits-enough}
 use Rattle.reader.specs.Calls.{Outcome, outcome}
 use Rattle.reader.proofs.Laws.{read-done}
 use Rattle.nextrecord.specs.NextRecord.{samplesNumber, nextNumber, next, nextOf}
@@ -47,11 +47,12 @@ room-enough c m w xs =
     (λ t. same-rest (eqb (mapNumber c m) 0) (mapNumber c m)
     (λ t. same-rest (banksFit m (w .banks)) 4
     (λ t. same-rest (topFits c m) 12
+    (λ t. same-rest (wordsFit m (w .touched)) 16
     (λ t. same-rest (leb (length xs) 65536 && samplesGood xs) 5
     (λ t.
     let few : length xs ≤ 65536 = leb-true (length xs) 65536 (and-left (leb (length xs) 65536) (samplesGood xs) t) in
     let fits : recordSize * recordCount c (w .session .port) xs ≤ roomForAny = omega (arith, records-bound c (w .session .port) xs) in
-    rw (le-leb (recordSize * recordCount c (w .session .port) xs) roomForAny fits))))))
+    rw (le-leb (recordSize * recordCount c (w .session .port) xs) roomForAny fits)))))))
 
 good-take : (k : ℕ) (xs : List ℕ) → samplesGood xs ≡ true → samplesGood (take k xs) ≡ true
 unfolding samplesGood
@@ -59,9 +60,9 @@ good-take zero xs g = refl
 good-take (suc k) [] g = refl
 good-take (suc k) (x ∷ xs) g = rw (and-left (leb x 15) (samplesGood xs) g) (good-take k xs (and-right (leb x 15) (samplesGood xs) g))
 
-module _ (c : Chip) (m : List ℕ) (s : Session) (act buf xs old : List ℕ) where
+module _ (c : Chip) (m : List ℕ) (s : Session) (act buf ws xs old : List ℕ) where
   abbrev given : World
-  given = world s act buf
+  given = world s act buf ws
 
   -- a call that is refused leaves all as it was
   next-refused : (n : ℕ) → n ≡ nextNumber c m given xs (length old) → n ≢ 0 → next (outcome n given 0 old) 0 ≡ nextOf c m given xs old
@@ -123,14 +124,16 @@ module _ (c : Chip) (m : List ℕ) (s : Session) (act buf xs old : List ℕ) whe
             (yes _ (eq-eqb (mapNumber c m) 0 (tested .good-map))
             (yes _ (tested .fits)
             (yes _ (tested .top)
+            (yes _ (tested .words)
             (yes _ samples
-            (yes _ (le-leb (recordSize * recordCount c (s .port) (take j xs)) (length old) fits) refl)))))
+            (yes _ (le-leb (recordSize * recordCount c (s .port) (take j xs)) (length old) fits) refl))))))
 
         pub ready : Ready c true m given (take j xs) old
         ready = record {
           sound = tested .sound;
           few = omega (arith, short, within, few);
           mapped = λ p. mapped;
+          bits = λ p. bits-enough m ws (tested .words);
           room = λ p. omega (arith, records-size c m (take j xs) given, count-first);
         }
 

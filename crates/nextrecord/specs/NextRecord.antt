@@ -14,7 +14,7 @@ use Rattle.session.specs.Step.{stepOf}
 use Rattle.session.specs.Event.{eventOf}
 use Rattle.records.specs.Records.{recordsIn}
 use Rattle.run.specs.Reading.{World, recordCount}
-use Rattle.refusals.specs.Numbers.{banksFit, samplesGood}
+use Rattle.refusals.specs.Numbers.{banksFit, wordsFit, samplesGood}
 use Rattle.reader.specs.Calls.{Outcome, outcome, readOf}
 
 -- how many samples are read
@@ -33,8 +33,9 @@ samplesNumber c m w samples =
     (unless (eqb (mapNumber c m) 0) (mapNumber c m)
     (unless (banksFit m (w .banks)) 4
     (unless (topFits c m) 12
+    (unless (wordsFit m (w .touched)) 16
     (unless (leb (length samples) 65536 && samplesGood samples) 5
-    0))))
+    0)))))
 
 -- The number of the call: 6 looks only at the record of the samples that are read.
 unfoldable pub nextNumber : Chip → List ℕ → World → List ℕ → ℕ → ℕ

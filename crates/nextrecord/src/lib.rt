@@ -53,13 +53,14 @@ fn samples_refusal(
     session: Session,
     active: &[u8],
     buffer: &[u8],
+    words: &[u64],
     samples: &[u8],
 ) -> u8
-    ensures { λ r. ⌜ r ≡ samplesNumber chip (now (map .entry)) (world session (now (active .entry)) (now (buffer .entry))) (now (samples .entry)) ⌝ }
+    ensures { λ r. ⌜ r ≡ samplesNumber chip (now (map .entry)) (world session (now (active .entry)) (now (buffer .entry)) (now (words .entry))) (now (samples .entry)) ⌝ }
 {
     let refused = map_number(chip, map);
     if refused == 0 {
-        return read_refusal(chip, map, session, active, buffer, samples, ROOM);
+        return read_refusal(chip, map, session, active, buffer, words, samples, ROOM);
     }
     if sound(chip, session) {
         return refused;
@@ -103,12 +104,13 @@ pub fn next_on(
     session: Session,
     active: &mut [u8],
     buffer: &mut [u8],
+    words: &mut [u64],
     samples: &[u8],
     records: &mut [u8],
 ) -> NextRecord
-    ensures { λ r. ⌜ next (outcome (r .number) (world (r .session) (now (active .exit)) (now (buffer .exit))) (r .count) (now (records .exit))) (r .taken) ≡ nextOf chip (now (map .entry)) (world session (now (active .entry)) (now (buffer .entry))) (now (samples .entry)) (now (records .entry)) ⌝ }
+    ensures { λ r. ⌜ next (outcome (r .number) (world (r .session) (now (active .exit)) (now (buffer .exit)) (now (words .exit))) (r .count) (now (records .exit))) (r .taken) ≡ nextOf chip (now (map .entry)) (world session (now (active .entry)) (now (buffer .entry)) (now (words .entry))) (now (samples .entry)) (now (records .entry)) ⌝ }
 {
-    let refused = samples_refusal(chip, map, session, active, buffer, samples);
+    let refused = samples_refusal(chip, map, session, active, buffer, words, samples);
     if refused != 0 {
         return refusal(refused, session);
     }
@@ -118,7 +120,17 @@ pub fn next_on(
         return refusal(6, session);
     }
     let read = &samples[..first.at];
-    let passed = run_samples(chip, true, map, session, active, buffer, read, records);
+    let passed = run_samples(
+        chip,
+        true,
+        map,
+        session,
+        active,
+        buffer,
+        words,
+        read,
+        records,
+    );
     let after = passed.session;
     NextRecord {
         number: 0,
@@ -134,12 +146,22 @@ pub fn next_record(
     session: Session,
     active: &mut [u8],
     buffer: &mut [u8],
+    words: &mut [u64],
     samples: &[u8],
     records: &mut [u8],
 ) -> NextRecord
-    ensures { λ r. ⌜ next (outcome (r .number) (world (r .session) (now (active .exit)) (now (buffer .exit))) (r .count) (now (records .exit))) (r .taken) ≡ nextOf Newer (now (map .entry)) (world session (now (active .entry)) (now (buffer .entry))) (now (samples .entry)) (now (records .entry)) ⌝ }
+    ensures { λ r. ⌜ next (outcome (r .number) (world (r .session) (now (active .exit)) (now (buffer .exit)) (now (words .exit))) (r .count) (now (records .exit))) (r .taken) ≡ nextOf Newer (now (map .entry)) (world session (now (active .entry)) (now (buffer .entry)) (now (words .entry))) (now (samples .entry)) (now (records .entry)) ⌝ }
 {
-    next_on(Chip::Newer, map, session, active, buffer, samples, records)
+    next_on(
+        Chip::Newer,
+        map,
+        session,
+        active,
+        buffer,
+        words,
+        samples,
+        records,
+    )
 }
 
 // The same for an older part with the highest address that it has.
@@ -150,14 +172,15 @@ pub fn next_record_older(
     session: Session,
     active: &mut [u8],
     buffer: &mut [u8],
+    words: &mut [u64],
     samples: &[u8],
     records: &mut [u8],
 ) -> NextRecord
-    ensures { λ r. ⌜ next (outcome (r .number) (world (r .session) (now (active .exit)) (now (buffer .exit))) (r .count) (now (records .exit))) (r .taken) ≡ nextOf (Older part top) (now (map .entry)) (world session (now (active .entry)) (now (buffer .entry))) (now (samples .entry)) (now (records .entry)) ⌝ }
+    ensures { λ r. ⌜ next (outcome (r .number) (world (r .session) (now (active .exit)) (now (buffer .exit)) (now (words .exit))) (r .count) (now (records .exit))) (r .taken) ≡ nextOf (Older part top) (now (map .entry)) (world session (now (active .entry)) (now (buffer .entry)) (now (words .entry))) (now (samples .entry)) (now (records .entry)) ⌝ }
 {
     let chip = Chip::Older {
         part: part,
         top: top,
     };
-    next_on(chip, map, session, active, buffer, samples, records)
+    next_on(chip, map, session, active, buffer, words, samples, records)
 }

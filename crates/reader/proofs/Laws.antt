@@ -19,7 +19,7 @@ use Rattle.run.specs.Reading.{World, recordCount}
 use Rattle.run.specs.Contracts.{Ready, Done}
 use Rattle.run.proofs.Laws.{records-size}
 use Rattle.refusals.specs.Numbers.{openNumber, samplesGood, readNumber}
-use Rattle.refusals.proofs.Laws.{opens, fits-mapped, read-tests}
+use Rattle.refusals.proofs.Laws.{opens, fits-mapped, bits-enough, read-tests}
 use Rattle.reader.specs.Calls.{Opening, opening, openOf, outcome, readOf}
 
 -- a map that opening does not refuse is good
@@ -50,6 +50,7 @@ read-ready c m w xs records n e z =
       sound = t .sound;
       few = leb-true (length xs) 65536 (and-left (leb (length xs) 65536) (samplesGood xs) (t .samples));
       mapped = λ p. fits-mapped m (w .banks) (t .fits);
+      bits = λ p. bits-enough m (w .touched) (t .words);
       room = λ p. omega (arith, records-size c m xs w, leb-true (recordSize * recordCount c (w .session .port) xs) (length records) (t .enough));
     }
 

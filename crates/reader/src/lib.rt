@@ -56,13 +56,23 @@ pub fn read_tested(
     session: Session,
     active: &mut [u8],
     buffer: &mut [u8],
+    words: &mut [u64],
     samples: &[u8],
     records: &mut [u8],
 ) -> Answer
     requires { ⌜ mapNumber chip (now map) ≡ 0 ⌝ }
-    ensures { λ r. ⌜ outcome (r .number) (world (r .session) (now (active .exit)) (now (buffer .exit))) (r .count) (now (records .exit)) ≡ readOf chip (now (map .entry)) (world session (now (active .entry)) (now (buffer .entry))) (now (samples .entry)) (now (records .entry)) ⌝ }
+    ensures { λ r. ⌜ outcome (r .number) (world (r .session) (now (active .exit)) (now (buffer .exit)) (now (words .exit))) (r .count) (now (records .exit)) ≡ readOf chip (now (map .entry)) (world session (now (active .entry)) (now (buffer .entry)) (now (words .entry))) (now (samples .entry)) (now (records .entry)) ⌝ }
 {
-    let refused = read_refusal(chip, map, session, active, buffer, samples, records.len());
+    let refused = read_refusal(
+        chip,
+        map,
+        session,
+        active,
+        buffer,
+        words,
+        samples,
+        records.len(),
+    );
     if refused != 0 {
         return Answer {
             number: refused,
@@ -70,7 +80,17 @@ pub fn read_tested(
             count: 0,
         };
     }
-    let done = run_samples(chip, true, map, session, active, buffer, samples, records);
+    let done = run_samples(
+        chip,
+        true,
+        map,
+        session,
+        active,
+        buffer,
+        words,
+        samples,
+        records,
+    );
     let next = done.session;
     Answer {
         number: 0,
@@ -86,14 +106,15 @@ pub fn read_on(
     session: Session,
     active: &mut [u8],
     buffer: &mut [u8],
+    words: &mut [u64],
     samples: &[u8],
     records: &mut [u8],
 ) -> Answer
-    ensures { λ r. ⌜ outcome (r .number) (world (r .session) (now (active .exit)) (now (buffer .exit))) (r .count) (now (records .exit)) ≡ readOf chip (now (map .entry)) (world session (now (active .entry)) (now (buffer .entry))) (now (samples .entry)) (now (records .entry)) ⌝ }
+    ensures { λ r. ⌜ outcome (r .number) (world (r .session) (now (active .exit)) (now (buffer .exit)) (now (words .exit))) (r .count) (now (records .exit)) ≡ readOf chip (now (map .entry)) (world session (now (active .entry)) (now (buffer .entry)) (now (words .entry))) (now (samples .entry)) (now (records .entry)) ⌝ }
 {
     let refused = map_number(chip, map);
     if refused == 0 {
-        return read_tested(chip, map, session, active, buffer, samples, records);
+        return read_tested(chip, map, session, active, buffer, words, samples, records);
     }
     if sound(chip, session) {
         return Answer {
@@ -127,18 +148,28 @@ pub fn open_older(part: Part, top: u64, map: &[u8], active: &mut [u8], buffer: &
     open_on(chip, map, active, buffer)
 }
 
-// Reads samples: the session and the banks that they lead to, and their records, from the buffer's start.
+// Reads samples: the session, the banks and the words of touched registers that they lead to, and their records, from the buffer's start.
 pub fn read(
     map: &[u8],
     session: Session,
     active: &mut [u8],
     buffer: &mut [u8],
+    words: &mut [u64],
     samples: &[u8],
     records: &mut [u8],
 ) -> Answer
-    ensures { λ r. ⌜ outcome (r .number) (world (r .session) (now (active .exit)) (now (buffer .exit))) (r .count) (now (records .exit)) ≡ readOf Newer (now (map .entry)) (world session (now (active .entry)) (now (buffer .entry))) (now (samples .entry)) (now (records .entry)) ⌝ }
+    ensures { λ r. ⌜ outcome (r .number) (world (r .session) (now (active .exit)) (now (buffer .exit)) (now (words .exit))) (r .count) (now (records .exit)) ≡ readOf Newer (now (map .entry)) (world session (now (active .entry)) (now (buffer .entry)) (now (words .entry))) (now (samples .entry)) (now (records .entry)) ⌝ }
 {
-    read_on(Chip::Newer, map, session, active, buffer, samples, records)
+    read_on(
+        Chip::Newer,
+        map,
+        session,
+        active,
+        buffer,
+        words,
+        samples,
+        records,
+    )
 }
 
 // The same for an older part with the highest address that it has.
@@ -149,14 +180,15 @@ pub fn read_older(
     session: Session,
     active: &mut [u8],
     buffer: &mut [u8],
+    words: &mut [u64],
     samples: &[u8],
     records: &mut [u8],
 ) -> Answer
-    ensures { λ r. ⌜ outcome (r .number) (world (r .session) (now (active .exit)) (now (buffer .exit))) (r .count) (now (records .exit)) ≡ readOf (Older part top) (now (map .entry)) (world session (now (active .entry)) (now (buffer .entry))) (now (samples .entry)) (now (records .entry)) ⌝ }
+    ensures { λ r. ⌜ outcome (r .number) (world (r .session) (now (active .exit)) (now (buffer .exit)) (now (words .exit))) (r .count) (now (records .exit)) ≡ readOf (Older part top) (now (map .entry)) (world session (now (active .entry)) (now (buffer .entry)) (now (words .entry))) (now (samples .entry)) (now (records .entry)) ⌝ }
 {
     let chip = Chip::Older {
         part: part,
         top: top,
     };
-    read_on(chip, map, session, active, buffer, samples, records)
+    read_on(chip, map, session, active, buffer, words, samples, records)
 }

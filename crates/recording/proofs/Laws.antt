@@ -1,6 +1,6 @@
 -- What the program's functions cite of what came from standard input and of what the reader left.
-use mathlib.Core.Path.{_≡_, refl, ap}
-use Prim.Native.Nat.{ℕ, _+_, _-_, _*_, _/_, _%_, _^_, _<_, _≤_}
+use mathlib.Core.Path.{_≡_, refl, ap, _∙_}
+use Prim.Native.Nat.{ℕ, _+_, _-_, _*_, _/_, _%_, _^_, _<_, _≤_, min}
 use mathlib.Core.Bool.{true, _&&_}
 use mathlib.Core.List.{List}
 use native.Mathlib.Omega.{arith}
@@ -11,7 +11,7 @@ use borrow.Author.Tests.{eq-eqb, eqb-true, le-leb, leb-true}
 use Rattle.sizes.specs.Sizes.{recordSize}
 use Rattle.bits.proofs.Cases.{each, and-left, and-right}
 use Rattle.chip.specs.declared.Chip.{Chip}
-use Rattle.regmap.specs.Format.{countOf}
+use Rattle.regmap.specs.Format.{countOf, mostCount}
 use Rattle.maptest.specs.MapTest.{mapNumber, topFits}
 use Rattle.maptest.proofs.Laws.{good-count}
 use Rattle.session.specs.declared.Session.{Session}
@@ -19,7 +19,7 @@ use Rattle.registers.specs.Banks.{Banks}
 use Rattle.records.proofs.SlowCount.{slow-most}
 use Rattle.run.specs.Reading.{World}
 use Rattle.run.proofs.Bound.{piece-bound}
-use Rattle.refusals.specs.Numbers.{openNumber, readNumber}
+use Rattle.refusals.specs.Numbers.{openNumber, wordsFit, readNumber}
 use Rattle.refusals.proofs.Laws.{open-number-most, read-number-most, read-tests}
 use Rattle.reader.specs.Calls.{Opening, opening, openOf, Outcome, outcome, readOf}
 use Rattle.recording.specs.declared.Family.{Family}
@@ -69,6 +69,10 @@ top-of-map (Older part) m {c} e good =
     let n = good-count c m good in
     rw e (rw (le-leb 0x000F (countOf m - 1) (omega (arith, n)), le-leb (countOf m - 1) 0x1FFF (omega (arith, n)), eq-eqb (countOf m - 1) (countOf m - 1) refl))
 
+-- words for as many registers as banks were lent for are those of a good map
+pub words-of-map : (c : Chip) (m words : List ℕ) → mapNumber c m ≡ 0 → length words ≡ (min (countOf m) mostCount + 63) / 64 → wordsFit m words ≡ true
+words-of-map c m words good e = eq-eqb (length words) ((countOf m + 63) / 64) (omega (arith, e, good-count c m good))
+
 -- the number that opening tells
 pub open-told : (f : Family) (m : List ℕ) {c : Chip} → c ≡ chipOf f m → (b : Banks) {number : ℕ} {s : Session} {after : Banks}
     → opening number s after ≡ openOf c m b → number ≤ 5
@@ -79,11 +83,11 @@ open-told f m {c} chip b {number} e =
 
 module _ (c : Chip) (m : List ℕ) (w : World) (samples records : List ℕ) where
   -- the number that reading a piece tells: the top is the map's, and the records of 4,096 samples have room
-  read-told : topFits c m ≡ true → length samples ≤ piece → 9562 ≤ length records → readOf c m w samples records .number ≤ 5
+  read-told : topFits c m ≡ true → wordsFit m (w .touched) ≡ true → length samples ≤ piece → 9562 ≤ length records → readOf c m w samples records .number ≤ 5
   unfolding readOf
-  read-told top few room =
+  read-told top words few room =
       let most : readNumber c m w samples (length records) ≤ 5 =
-      read-number-most c m (λ good. top) w samples (length records) (omega (arith, piece-bound c (w .session .port) samples few)) in
+      read-number-most c m (λ good. top) w samples (length records) (λ good. words) (omega (arith, piece-bound c (w .session .port) samples few)) in
       each (λ (o : Outcome). o .number ≤ 5) (eqb (readNumber c m w samples (length records)) 0) (λ t. omega arith) (λ t. most)
 
   module _ {number count : ℕ} {after : World} {left : List ℕ} (e : outcome number after count left ≡ readOf c m w samples records) (full : length records ≡ recordSpace) where
@@ -94,10 +98,10 @@ module _ (c : Chip) (m : List ℕ) (w : World) (samples records : List ℕ) wher
         omega (arith, within-room c m w samples records)
 
     -- with which number a piece is refused
-    pub piece-told : topFits c m ≡ true → length samples ≤ piece → number ≤ 5
-    piece-told top few =
+    pub piece-told : topFits c m ≡ true → wordsFit m (w .touched) ≡ true → length samples ≤ piece → number ≤ 5
+    piece-told top words few =
         let told : number ≡ readOf c m w samples records .number = ap (λ (o : Outcome). o .number) e in
-        omega (arith, read-told top few (omega arith))
+        omega (arith, read-told top words few (omega arith))
 
 -- There are no more records than samples, and no more of them ask for slow than there are.
 pub record Counts (t : Tally) : Type 0 where
@@ -139,10 +143,15 @@ module _ (t : Tally) (samples : List ℕ) {got : ℕ} (within : got ≤ length s
           few-slow = omega (arith, k .few-slow, slow-most (length part / recordSize) part);
         })
 
--- What holds whenever a piece is about to be read: the banks and buffers are as long as they were lent, and the counts are in order.
-pub record Reading (active₀ buffer₀ active buffer samples records : List ℕ) (t : Tally) : Type 0 where
+-- as many words as before fit as before
+pub words-still : (m words words₀ : List ℕ) → length words ≡ length words₀ → wordsFit m words₀ ≡ true → wordsFit m words ≡ true
+words-still m words words₀ e f = ap (λ (n : ℕ). eqb n ((countOf m + 63) / 64)) e ∙ f
+
+-- What holds whenever a piece is about to be read: the banks, words and buffers are as long as they were lent, and the counts are in order.
+pub record Reading (active₀ buffer₀ words₀ active buffer words samples records : List ℕ) (t : Tally) : Type 0 where
   pub same-active : length active ≡ length active₀
   pub same-buffer : length buffer ≡ length buffer₀
+  pub same-words : length words ≡ length words₀
   pub samples-room : length samples ≡ piece
   pub records-room : length records ≡ recordSpace
   pub counts : Counts t

@@ -4,12 +4,14 @@
 // What a file holds is the system's, and no contract can say it. So the promises here are of how a reading ends, of what is told
 // beside it, and that no buffer is left.
 //
-// The buffers, with those of the calls, are at most 64,289 bytes together.
+// The buffers, with those of the calls, are at most 65,321 bytes together.
 ghost use mathlib.Core.Path.{_≡_};
 ghost use mathlib.Core.Bool.{true};
-ghost use Prim.Native.Nat.{_<_, _≤_, _-_, min};
+ghost use Prim.Native.Nat.{_<_, _≤_, _+_, _-_, _/_, min};
+ghost use lib.ListN.{length};
 ghost use Rattle.regmap.specs.Format.{countOf, mostCount};
 ghost use Rattle.maptest.specs.MapTest.{mapNumber, topFits};
+ghost use Rattle.refusals.specs.Numbers.{wordsFit};
 ghost use Rattle.recording.specs.Ends.{Known};
 ghost use Rattle.recording.specs.Families.{chipOf};
 
@@ -33,6 +35,9 @@ const PIECE: usize = 4096;
 
 // The bytes for the records of a piece.
 const RECORD_SPACE: usize = 9562;
+
+// The words of touched registers of the largest map.
+const MOST_WORDS: usize = 128;
 
 // What a recording is of: a newer chip, or an older part, whose highest address its map tells.
 pub enum Family {
@@ -108,10 +113,11 @@ fn read_trace(
     mut session: Session,
     active: &mut [u8],
     buffer: &mut [u8],
+    words: &mut [u64],
     from: i32,
     to: i32,
 ) -> Reading
-    requires { ⌜ (mapNumber chip (now map) ≡ 0) × (topFits chip (now map) ≡ true) ⌝ }
+    requires { ⌜ (mapNumber chip (now map) ≡ 0) × (topFits chip (now map) ≡ true) × (wordsFit (now map) (now words) ≡ true) ⌝ }
     ensures { λ r. ⌜ Known (r .end) ⌝ }
 {
     let mut samples = [0u8; PIECE];
@@ -122,7 +128,16 @@ fn read_trace(
             return ended(End::SamplesFailed, tally);
         };
         let piece = &samples[..got];
-        let answer = reader::read_tested(chip, map, session, active, buffer, piece, &mut records);
+        let answer = reader::read_tested(
+            chip,
+            map,
+            session,
+            active,
+            buffer,
+            words,
+            piece,
+            &mut records,
+        );
         let number = answer.number;
         if number != 0 {
             return ended(refuse(to, number), tally::up_to_bad(tally, piece));
@@ -170,9 +185,11 @@ fn read_opened(
     map: &[u8],
     active: &mut [u8],
     buffer: &mut [u8],
+    words: &mut [u64],
     from: i32,
     to: i32,
 ) -> Reading
+    requires { ⌜ length (now words) ≡ (min (countOf (now map)) mostCount + 63) / 64 ⌝ }
     ensures { λ r. ⌜ Known (r .end) ⌝ }
 {
     let chip = chip_of(family, map);
@@ -182,7 +199,7 @@ fn read_opened(
         return unread(refuse(to, refused));
     }
     if output::write_map_line(to, regmap::count(map)) {
-        return read_trace(chip, map, opened.session, active, buffer, from, to);
+        return read_trace(chip, map, opened.session, active, buffer, words, from, to);
     }
     unread(End::OutputFailed)
 }
@@ -199,6 +216,14 @@ fn bank_size(map: &[u8]) -> usize
     }
 }
 
+// How many words the touched registers of so many registers take.
+fn word_count(count: usize) -> usize
+    requires { ⌜ count ≤ mostCount ⌝ }
+    ensures { λ r. ⌜ r ≡ (count + 63) / 64 ⌝ }
+{
+    (count + 63) / 64
+}
+
 // Reads the recording in two open files, or in one that holds the samples after the map, and writes to a third.
 fn read_files(family: Family, map_file: i32, samples_file: i32, to: i32) -> Reading
     ensures { λ r. ⌜ Known (r .end) ⌝ }
@@ -206,6 +231,7 @@ fn read_files(family: Family, map_file: i32, samples_file: i32, to: i32) -> Read
     let mut map = [0u8; MAP_SPACE];
     let mut active = [0u8; MOST_COUNT];
     let mut buffer = [0u8; MOST_COUNT];
+    let mut words = [0u64; MOST_WORDS];
     let Filled::Bytes(length) = input::read_map(map_file, map_file != samples_file, &mut map) else {
         return unread(End::MapFailed);
     };
@@ -216,6 +242,7 @@ fn read_files(family: Family, map_file: i32, samples_file: i32, to: i32) -> Read
         given,
         &mut active[..n],
         &mut buffer[..n],
+        &mut words[..word_count(n)],
         samples_file,
         to,
     )

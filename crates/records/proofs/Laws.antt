@@ -11,9 +11,11 @@ use Rattle.settings.specs.declared.Settings.{Settings}
 use Rattle.session.specs.declared.Event.{Event}
 use Rattle.session.specs.declared.Event.the-variants.{Nothing, Whole, Aborted, Ended}
 use Rattle.registers.specs.Banks.{Banks, Mapped}
+use Rattle.touched.proofs.Meaning.{length-touched}
+use Rattle.writing.specs.Write.{effectAt, onByte}
 use Rattle.writing.proofs.Laws.{mapped-write, mapped-rise}
 use Rattle.records.specs.declared.Took.{Took}
-use Rattle.records.specs.BanksAfter.{banksAfter}
+use Rattle.records.specs.BanksAfter.{banksAfter, touchedAfter}
 use Rattle.records.specs.Records.{recordOf, recordsIn}
 use Rattle.records.specs.Contracts.{Taken}
 
@@ -25,6 +27,16 @@ mapped-after c m k b (Whole read a v) h = each (Mapped m) read (λ e. h) (λ e. 
 mapped-after c m k b (Aborted a bits d) h = mapped-rise h c k
 mapped-after c m k b Ended h = mapped-rise h c k
 
+-- and how many words there are
+pub length-after : (c : Chip) (m ws : List ℕ) (b : Banks) (e : Event) → length (touchedAfter c m ws b e) ≡ length ws
+unfolding touchedAfter
+length-after c m ws b Nothing = refl
+length-after c m ws b (Whole read a v) =
+    each (λ (l : List ℕ). length l ≡ length ws) read (λ e. refl)
+    (λ e. each (λ (l : List ℕ). length l ≡ length ws) (onByte (effectAt c m b a v)) (λ e. length-touched ws a) (λ e. refl))
+length-after c m ws b (Aborted a bits d) = refl
+length-after c m ws b Ended = refl
+
 -- how many bytes the records of an event have
 pub record-size : (c : Chip) (m : List ℕ) (b : Banks) (t : Settings) (e : Event) → length (recordOf c m b t e) ≡ recordSize * recordsIn e
 unfolding recordOf
@@ -34,6 +46,6 @@ record-size c m b t (Aborted a bits d) = refl
 record-size c m b t Ended = refl
 
 -- so the place after an event that is taken is known without its record
-pub place-after : {c : Chip} {m : List ℕ} {k : Bool} {b : Banks} {t : Settings} {e : Event} {old : List ℕ} {at : ℕ} {after : Banks} {new : List ℕ} {took : Took}
-    → Taken c m k b t e old at after new took → took .at ≡ at + recordSize * recordsIn e
-place-after {c} {m} {b = b} {t} {e} {at = at} a = a .next-place ∙ ap (λ (n : ℕ). at + n) (record-size c m b t e)
+pub place-after : {c : Chip} {m : List ℕ} {k : Bool} {b : Banks} {ws : List ℕ} {t : Settings} {e : Event} {old : List ℕ} {at : ℕ} {after : Banks} {words new : List ℕ} {took : Took}
+    → Taken c m k b ws t e old at after words new took → took .at ≡ at + recordSize * recordsIn e
+place-after {c} {m} {b = b} {t = t} {e} {at = at} a = a .next-place ∙ ap (λ (n : ℕ). at + n) (record-size c m b t e)

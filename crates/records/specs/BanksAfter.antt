@@ -1,4 +1,4 @@
--- What an event does to the banks, and whether the session is armed after it.
+-- What an event does to the banks and to the words of touched registers, and whether the session is armed after it.
 use Prim.Native.Nat.{ℕ}
 use mathlib.Core.Bool.{Bool, false, cond}
 use mathlib.Core.List.{List}
@@ -6,7 +6,8 @@ use Rattle.chip.specs.declared.Chip.{Chip}
 use Rattle.session.specs.declared.Event.{Event}
 use Rattle.session.specs.declared.Event.the-variants.{Nothing, Whole, Aborted, Ended}
 use Rattle.registers.specs.Banks.{Banks}
-use Rattle.writing.specs.Write.{effectAt, writeBanks}
+use Rattle.touched.specs.Touched.{touchedWords}
+use Rattle.writing.specs.Write.{effectAt, onByte, writeBanks}
 use Rattle.writing.specs.Rise.{armedBy, riseBanks}
 
 -- Document 01, "What a whole byte does": a whole byte is written or read; a broken one does nothing. Document 02, Ask 4: the end of the
@@ -23,3 +24,10 @@ armedAfter c m armed b Nothing = armed
 armedAfter c m armed b (Whole read a v) = cond read armed (armedBy c m armed (effectAt c m b a v))
 armedAfter c m armed b (Aborted a bits inData) = false
 armedAfter c m armed b Ended = false
+
+-- Document 02, Ask 7: a write with effect 1 or 2 touches its register; nothing else changes the words
+unfoldable pub touchedAfter : Chip → List ℕ → List ℕ → Banks → Event → List ℕ
+touchedAfter c m ws b Nothing = ws
+touchedAfter c m ws b (Whole read a v) = cond read ws (cond (onByte (effectAt c m b a v)) (touchedWords ws a) ws)
+touchedAfter c m ws b (Aborted a bits inData) = ws
+touchedAfter c m ws b Ended = ws

@@ -1,26 +1,37 @@
 -- What taking an event asks, and what it leaves.
-use Prim.Native.Nat.{ℕ, _+_, _≤_}
+use Prim.Native.Nat.{ℕ, _+_, _*_, _≤_}
 use mathlib.Core.Path.{_≡_}
-use mathlib.Core.Bool.{Bool}
+use mathlib.Core.Bool.{Bool, cond}
 use mathlib.Core.List.{List}
 use lib.ListN.{length}
 use lib.Seq.{sets}
+use Rattle.touched.specs.Touched.{touchedWords}
 use Rattle.chip.specs.declared.Chip.{Chip}
+use Rattle.regmap.specs.Format.{countOf}
 use Rattle.settings.specs.declared.Settings.{Settings}
 use Rattle.session.specs.declared.Event.{Event}
 use Rattle.registers.specs.Banks.{Banks, Mapped}
+use Rattle.writing.specs.Write.{touchesOn}
 use Rattle.records.specs.declared.Took.{Took}
-use Rattle.records.specs.BanksAfter.{banksAfter, armedAfter}
+use Rattle.records.specs.BanksAfter.{banksAfter, armedAfter, touchedAfter}
 use Rattle.records.specs.Records.{recordOf}
 
--- before an event is taken: the map fits the banks, and there is room for the record
-pub record Taking (c : Chip) (m : List ℕ) (b : Banks) (t : Settings) (e : Event) (old : List ℕ) (at : ℕ) : Type 0 where
+-- the words after a write with the effect of this number
+abbrev pub touchedOn : List ℕ → ℕ → ℕ → List ℕ
+touchedOn ws a effect = cond (touchesOn effect) (touchedWords ws a) ws
+
+-- before an event is taken: the map fits the banks, each register has its bit, and there is room for the record
+pub record Taking (c : Chip) (m : List ℕ) (b : Banks) (ws : List ℕ) (t : Settings) (e : Event) (old : List ℕ) (at : ℕ) : Type 0 where
   pub mapped : Mapped m b
+  pub bits : countOf m ≤ 64 * length ws
   pub room : at + length (recordOf c m b t e) ≤ length old
 
--- after it: both banks, whether the session is armed, the record in its place, and the place after it
-pub record Taken (c : Chip) (m : List ℕ) (k : Bool) (b : Banks) (t : Settings) (e : Event) (old : List ℕ) (at : ℕ) (after : Banks) (new : List ℕ) (took : Took) : Type 0 where
+-- after it: both banks, the words, whether the session is armed, the record in its place, and the place after it
+pub record Taken
+    (c : Chip) (m : List ℕ) (k : Bool) (b : Banks) (ws : List ℕ) (t : Settings) (e : Event) (old : List ℕ) (at : ℕ)
+    (after : Banks) (words new : List ℕ) (took : Took) : Type 0 where
   pub banks-after : after ≡ banksAfter c m k b e
+  pub words-after : words ≡ touchedAfter c m ws b e
   pub armed-after : took .armed ≡ armedAfter c m k b e
   pub records-after : new ≡ sets old at (recordOf c m b t e)
   pub next-place : took .at ≡ at + length (recordOf c m b t e)

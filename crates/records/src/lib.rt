@@ -1,12 +1,14 @@
 // What an event does to the banks, and the bytes that it is recorded as.
 ghost use mathlib.Core.Path.{_≡_};
-ghost use Prim.Native.Nat.{_+_, _≤_};
+ghost use mathlib.Core.Bool.{true};
+ghost use Prim.Native.Nat.{_+_, _*_, _<_, _≤_};
 ghost use lib.ListN.{length};
 ghost use lib.Seq.{sets};
 ghost use Rattle.sizes.specs.Sizes.{recordSize};
 ghost use Rattle.registers.specs.Banks.{banks};
 ghost use Rattle.records.specs.Records.{recordsIn, recordBytes, writeRecord, readRecord, abortRecord};
-ghost use Rattle.records.specs.Contracts.{Taking, Taken};
+ghost use Rattle.writing.specs.Write.{touchesOn};
+ghost use Rattle.records.specs.Contracts.{touchedOn, Taking, Taken};
 
 mod slow;
 
@@ -15,9 +17,11 @@ use session::Event;
 use settings::Settings;
 use sizes::RECORD;
 pub use slow::count_slow;
+use touched::touch;
 use writing::Written;
 use writing::armed_on;
 use writing::end_frame;
+use writing::touches;
 
 const WRITE: u8 = 1;
 
@@ -115,20 +119,31 @@ pub struct Took {
     pub armed: bool,
 }
 
-// Does what an event does to the banks, and puts its record at a place.
+// Touches the register that a write with the effect of this number was to.
+fn touch_written(words: &mut [u64], address: u16, effect: u8)
+    requires { ⌜ (touchesOn effect ≡ true → address < 64 * length (now words)) ⌝ }
+    ensures { λ r. ⌜ now (words .exit) ≡ touchedOn (now (words .entry)) address effect ⌝ }
+{
+    if touches(effect) {
+        touch(words, address as usize);
+    }
+}
+
+// Does what an event does to the banks and to the words of touched registers, and puts its record at a place.
 pub fn take_event(
     chip: Chip,
     map: &[u8],
     active: &mut [u8],
     buffer: &mut [u8],
+    words: &mut [u64],
     settings: Settings,
     armed: bool,
     event: Event,
     records: &mut [u8],
     at: usize,
 ) -> Took
-    requires { ⌜ Taking chip (now map) (banks (now active) (now buffer)) settings event (now records) at ⌝ }
-    ensures { λ r. ⌜ Taken chip (now (map .entry)) armed (banks (now (active .entry)) (now (buffer .entry))) settings event (now (records .entry)) at (banks (now (active .exit)) (now (buffer .exit))) (now (records .exit)) r ⌝ }
+    requires { ⌜ Taking chip (now map) (banks (now active) (now buffer)) (now words) settings event (now records) at ⌝ }
+    ensures { λ r. ⌜ Taken chip (now (map .entry)) armed (banks (now (active .entry)) (now (buffer .entry))) (now (words .entry)) settings event (now (records .entry)) at (banks (now (active .exit)) (now (buffer .exit))) (now (words .exit)) (now (records .exit)) r ⌝ }
 {
     match event {
         Event::Nothing => Took {
@@ -149,6 +164,7 @@ pub fn take_event(
                 };
             }
             let written = writing::write(chip, map, active, buffer, settings, address, byte);
+            touch_written(words, address, written.effect);
             put_write(records, at, address, byte, written);
             let armed = armed_on(chip, map, armed, written.effect);
             Took {

@@ -3,7 +3,7 @@ use mathlib.Core.Path.{_≡_, refl, sym, _∙_}
 use mathlib.Core.Bool.{Bool, true, false, _&&_, false≢true}
 use mathlib.Core.Logic.{_≢_}
 use mathlib.Core.List.{List}
-use Prim.Native.Nat.{ℕ, _*_, _<_, _≤_}
+use Prim.Native.Nat.{ℕ, _+_, _*_, _/_, _<_, _≤_}
 use native.Mathlib.Omega.{arith}
 use lib.Dec.{eqb, leb}
 use lib.ListN.{length}
@@ -18,7 +18,7 @@ use Rattle.maptest.proofs.Laws.{map-number-most}
 use Rattle.session.specs.State.{soundSession}
 use Rattle.registers.specs.Banks.{Banks, Mapped}
 use Rattle.run.specs.Reading.{World, recordCount}
-use Rattle.refusals.specs.Numbers.{banksFit, openNumber, samplesGood, readNumber}
+use Rattle.refusals.specs.Numbers.{banksFit, openNumber, wordsFit, samplesGood, readNumber}
 
 -- a test that refuses with a number, and the tests after it
 passed : (t : Bool) (n next : ℕ) → n ≢ 0 → unless t n next ≡ 0 → (t ≡ true) × (next ≡ 0)
@@ -68,6 +68,10 @@ fits-mapped m b f =
       buffer-size = eqb-true (length (b .buffer)) (countOf m) (and-right active buffer f);
     }
 
+-- each register has its bit
+pub bits-enough : (m words : List ℕ) → wordsFit m words ≡ true → countOf m ≤ 64 * length words
+bits-enough m words f = omega (arith, eqb-true (length words) ((countOf m + 63) / 64) f)
+
 -- a bound of the numbers: of the first, and of those after it where its test holds
 bounded : {most : ℕ} (t : Bool) {n next : ℕ} → n ≤ most → (t ≡ true → next ≤ most) → unless t n next ≤ most
 bounded true h rest = rest refl
@@ -82,14 +86,15 @@ module _ (c : Chip) (m : List ℕ) (top : mapNumber c m ≡ 0 → topFits c m �
       (λ t. bounded (banksFit m b) (omega arith)
       (λ u. rw (top (eqb-true (mapNumber c m) 0 t)) (omega arith)))
 
-  -- where the room suffices, neither is 6
-  pub read-number-most : (w : World) (xs : List ℕ) (room : ℕ) → recordSize * recordCount c (w .session .port) xs ≤ room → readNumber c m w xs room ≤ 5
+  -- where the room suffices, neither is 6, and where the words are as many as the map needs, neither is 16
+  pub read-number-most : (w : World) (xs : List ℕ) (room : ℕ) → (mapNumber c m ≡ 0 → wordsFit m (w .touched) ≡ true)
+      → recordSize * recordCount c (w .session .port) xs ≤ room → readNumber c m w xs room ≤ 5
   unfolding readNumber
-  read-number-most w xs room enough =
+  read-number-most w xs room words enough =
       bounded (soundSession c (w .session)) (omega arith)
       (λ s. bounded (eqb (mapNumber c m) 0) (omega (arith, map-number-most c m))
       (λ t. bounded (banksFit m (w .banks)) (omega arith)
-      (λ u. rw (top (eqb-true (mapNumber c m) 0 t))
+      (λ u. rw (top (eqb-true (mapNumber c m) 0 t), words (eqb-true (mapNumber c m) 0 t))
       (bounded (leb (length xs) 65536 && samplesGood xs) (omega arith)
       (λ v. rw (le-leb (recordSize * recordCount c (w .session .port) xs) room enough) (omega arith))))))
 
@@ -99,6 +104,7 @@ pub record ReadTests (c : Chip) (m : List ℕ) (w : World) (xs : List ℕ) (room
   pub good-map : mapNumber c m ≡ 0
   pub fits : banksFit m (w .banks) ≡ true
   pub top : topFits c m ≡ true
+  pub words : wordsFit m (w .touched) ≡ true
   pub samples : (leb (length xs) 65536 && samplesGood xs) ≡ true
   pub enough : leb (recordSize * recordCount c (w .session .port) xs) room ≡ true
 
@@ -109,9 +115,10 @@ read-tests c m w xs room e =
     let two = passed-map (mapNumber c m) _ (one .1) in
     let four = passed (banksFit m (w .banks)) 4 _ (λ q. omega arith) (two .1) in
     let twelve = passed (topFits c m) 12 _ (λ q. omega arith) (four .1) in
-    let five = passed (leb (length xs) 65536 && samplesGood xs) 5 _ (λ q. omega arith) (twelve .1) in
+    let sixteen = passed (wordsFit m (w .touched)) 16 _ (λ q. omega arith) (twelve .1) in
+    let five = passed (leb (length xs) 65536 && samplesGood xs) 5 _ (λ q. omega arith) (sixteen .1) in
     let six = passed (leb (recordSize * recordCount c (w .session .port) xs) room) 6 _ (λ q. omega arith) (five .1) in
-    record { sound = one .0; good-map = two .0; fits = four .0; top = twelve .0; samples = five .0; enough = six .0 }
+    record { sound = one .0; good-map = two .0; fits = four .0; top = twelve .0; words = sixteen .0; samples = five .0; enough = six .0 }
 
 module _ (c : Chip) (m : List ℕ) (b : Banks) (n : ℕ) (given : n ≡ mapNumber c m) where
   -- the map is refused
@@ -142,36 +149,47 @@ module _ (c : Chip) (m : List ℕ) (w : World) (xs : List ℕ) (room : ℕ) wher
         let e = map-refused c m (w .banks) n given z in
         e ∙ not-opened (λ q. z (e ∙ q))
 
-    module _ (fits : openNumber c m (w .banks) ≡ 0) where
-      -- only the samples and the room are left to test
-      samples-next : (n : ℕ)
-          → n ≡ unless (leb (length xs) 65536 && samplesGood xs) 5 (unless (leb (recordSize * recordCount c (w .session .port) xs) room) 6 0)
+    module _ (fits : openNumber c m (w .banks) ≡ 0) (enough-words : Bool) (looked-at : enough-words ≡ wordsFit m (w .touched)) where
+      -- only the words, the samples and the room are left to test
+      words-next : (n : ℕ)
+          → n ≡ unless (wordsFit m (w .touched)) 16
+          (unless (leb (length xs) 65536 && samplesGood xs) 5 (unless (leb (recordSize * recordCount c (w .session .port) xs) room) 6 0))
           → n ≡ readNumber c m w xs room
       unfolding readNumber
-      samples-next n e =
+      words-next n e =
           let t = opens c m (w .banks) fits in
           yes _ sound (yes _ (eq-eqb (mapNumber c m) 0 (t .good-map)) (yes _ (t .fits) (yes _ (t .top) e)))
 
-      pub too-many : 65536 < length xs → 5 ≡ readNumber c m w xs room
-      too-many h =
-          let t : (leb (length xs) 65536 && samplesGood xs) ≡ false = rw (lt-leb (length xs) 65536 h) in
-          samples-next 5 (no _ t refl)
+      pub other-words : enough-words ≡ false → 16 ≡ readNumber c m w xs room
+      other-words e = words-next 16 (no _ (sym looked-at ∙ e) refl)
 
-      module _ (few : length xs ≤ 65536) (good : Bool) (looked : good ≡ samplesGood xs) where
-        pub one-bad : good ≡ false → 5 ≡ readNumber c m w xs room
-        one-bad e =
-            let t : (leb (length xs) 65536 && samplesGood xs) ≡ false = rw (le-leb (length xs) 65536 few) (sym looked ∙ e) in
+      module _ (words : enough-words ≡ true) where
+        -- only the samples and the room are left to test
+        samples-next : (n : ℕ)
+            → n ≡ unless (leb (length xs) 65536 && samplesGood xs) 5 (unless (leb (recordSize * recordCount c (w .session .port) xs) room) 6 0)
+            → n ≡ readNumber c m w xs room
+        samples-next n e = words-next n (yes _ (sym looked-at ∙ words) e)
+
+        pub too-many : 65536 < length xs → 5 ≡ readNumber c m w xs room
+        too-many h =
+            let t : (leb (length xs) 65536 && samplesGood xs) ≡ false = rw (lt-leb (length xs) 65536 h) in
             samples-next 5 (no _ t refl)
 
-        -- only the room is left to test
-        room-next : good ≡ true → (n : ℕ) → n ≡ unless (leb (recordSize * recordCount c (w .session .port) xs) room) 6 0 → n ≡ readNumber c m w xs room
-        room-next e n q =
-            let t : (leb (length xs) 65536 && samplesGood xs) ≡ true = rw (le-leb (length xs) 65536 few) (sym looked ∙ e) in
-            samples-next n (yes _ t q)
+        module _ (few : length xs ≤ 65536) (good : Bool) (looked : good ≡ samplesGood xs) where
+          pub one-bad : good ≡ false → 5 ≡ readNumber c m w xs room
+          one-bad e =
+              let t : (leb (length xs) 65536 && samplesGood xs) ≡ false = rw (le-leb (length xs) 65536 few) (sym looked ∙ e) in
+              samples-next 5 (no _ t refl)
 
-        module _ (all-good : good ≡ true) (enough : Bool) (counted : enough ≡ leb (recordSize * recordCount c (w .session .port) xs) room) where
-          pub room-found : enough ≡ true → 0 ≡ readNumber c m w xs room
-          room-found e = room-next all-good 0 (yes _ (sym counted ∙ e) refl)
+          -- only the room is left to test
+          room-next : good ≡ true → (n : ℕ) → n ≡ unless (leb (recordSize * recordCount c (w .session .port) xs) room) 6 0 → n ≡ readNumber c m w xs room
+          room-next e n q =
+              let t : (leb (length xs) 65536 && samplesGood xs) ≡ true = rw (le-leb (length xs) 65536 few) (sym looked ∙ e) in
+              samples-next n (yes _ t q)
 
-          pub room-short : enough ≡ false → 6 ≡ readNumber c m w xs room
-          room-short e = room-next all-good 6 (no _ (sym counted ∙ e) refl)
+          module _ (all-good : good ≡ true) (enough : Bool) (counted : enough ≡ leb (recordSize * recordCount c (w .session .port) xs) room) where
+            pub room-found : enough ≡ true → 0 ≡ readNumber c m w xs room
+            room-found e = room-next all-good 0 (yes _ (sym counted ∙ e) refl)
+
+            pub room-short : enough ≡ false → 6 ≡ readNumber c m w xs room
+            room-short e = room-next all-good 6 (no _ (sym counted ∙ e) refl)

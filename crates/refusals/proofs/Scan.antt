@@ -25,4 +25,10 @@ good-all xs good i h e = sym (and-true good) ∙ (rw (drop-of-length-le xs h) at
 
 -- a pass that puts no record asks nothing of the map, the banks and the buffer
 pub ready-to-count : (c : Chip) (m : List ℕ) (w : World) (xs old : List ℕ) → soundSession c (w .session) ≡ true → length xs ≤ 65536 → Ready c false m w xs old
-ready-to-count c m w xs old f h = record { sound = f; few = h; mapped = λ p. absurd (false≢true p); room = λ p. absurd (false≢true p) }
+ready-to-count c m w xs old f h = record {
+  sound = f;
+  few = h;
+  mapped = λ p. absurd (false≢true p);
+  bits = λ p. absurd (false≢true p);
+  room = λ p. absurd (false≢true p);
+}

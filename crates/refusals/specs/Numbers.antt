@@ -1,5 +1,5 @@
 -- Document 01, "Numbers given back": the numbers of the reader's two calls, on any chip.
-use Prim.Native.Nat.{ℕ, _*_}
+use Prim.Native.Nat.{ℕ, _+_, _*_, _/_}
 use mathlib.Core.Bool.{Bool, true, _&&_}
 use mathlib.Core.List.{List, [], _∷_}
 use lib.ListN.{length}
@@ -30,13 +30,19 @@ unfoldable pub samplesGood : List ℕ → Bool
 samplesGood [] = true
 samplesGood (x ∷ xs) = leb x 15 && samplesGood xs
 
--- The number of the reader: the lowest that applies, but for 12, which comes after 4. Number 6 counts the size of a record for each.
+-- Document 02, Ask 7: n divided by 64, rounded up, words of touched registers
+abbrev pub wordsFit : List ℕ → List ℕ → Bool
+wordsFit m words = eqb (length words) ((countOf m + 63) / 64)
+
+-- The number of the reader: the lowest that applies, but for 12, which comes after 4, and 16, which comes after both. Number 6 counts the
+-- size of a record for each.
 unfoldable pub readNumber : Chip → List ℕ → World → List ℕ → ℕ → ℕ
 readNumber c m w samples room =
     unless (soundSession c (w .session)) 1
     (unless (eqb (mapNumber c m) 0) (mapNumber c m)
     (unless (banksFit m (w .banks)) 4
     (unless (topFits c m) 12
+    (unless (wordsFit m (w .touched)) 16
     (unless (leb (length samples) 65536 && samplesGood samples) 5
     (unless (leb (recordSize * recordCount c (w .session .port) samples) room) 6
-    0)))))
+    0))))))

@@ -1,5 +1,8 @@
 // The numbers of the reader's two calls: document 01's refusals in their order. Nothing is changed here.
 ghost use mathlib.Core.Path.{_≡_};
+ghost use Prim.Native.Nat.{_+_, _/_, _≤_};
+ghost use lib.Dec.{eqb};
+ghost use lib.ListN.{length};
 ghost use Rattle.maptest.specs.MapTest.{mapNumber};
 ghost use Rattle.registers.specs.Banks.{banks};
 ghost use Rattle.run.specs.Reading.{world};
@@ -32,6 +35,14 @@ pub fn open_refusal(chip: Chip, number: u8, map: &[u8], active: &[u8], buffer: &
     4
 }
 
+// Whether there are as many words of touched registers as a map of so many registers needs.
+fn words_fit(count: usize, words: &[u64]) -> bool
+    requires { ⌜ count ≤ 8192 ⌝ }
+    ensures { λ r. ⌜ r ≡ eqb (length (now (words .entry))) ((count + 63) / 64) ⌝ }
+{
+    words.len() == (count + 63) / 64
+}
+
 // The number of reading on a map that the chip can have: 0, or the refusal.
 pub fn read_refusal(
     chip: Chip,
@@ -39,11 +50,12 @@ pub fn read_refusal(
     session: Session,
     active: &[u8],
     buffer: &[u8],
+    words: &[u64],
     samples: &[u8],
     room: usize,
 ) -> u8
     requires { ⌜ mapNumber chip (now map) ≡ 0 ⌝ }
-    ensures { λ r. ⌜ r ≡ readNumber chip (now (map .entry)) (world session (now (active .entry)) (now (buffer .entry))) (now (samples .entry)) room ⌝ }
+    ensures { λ r. ⌜ r ≡ readNumber chip (now (map .entry)) (world session (now (active .entry)) (now (buffer .entry)) (now (words .entry))) (now (samples .entry)) room ⌝ }
 {
     if !sound(chip, session) {
         return 1;
@@ -51,6 +63,9 @@ pub fn read_refusal(
     let opens = open_refusal(chip, 0, map, active, buffer);
     if opens != 0 {
         return opens;
+    }
+    if !words_fit(regmap::count(map), words) {
+        return 16;
     }
     if 65536 < samples.len() {
         return 5;

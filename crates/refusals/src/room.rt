@@ -26,7 +26,7 @@ pub fn samples_good(samples: &[u8]) -> bool
     good
 }
 
-// How many records the samples give: a pass over them with nothing to put, no map and no banks.
+// How many records the samples give: a pass over them with nothing to put, no map, no banks and no words.
 fn count_records(chip: Chip, session: Session, samples: &[u8]) -> usize
     requires { ⌜ (soundSession chip session ≡ true) × (length (now samples) ≤ 65536) ⌝ }
     ensures { λ r. ⌜ r ≡ recordCount chip (session .port) (now (samples .entry)) ⌝ }
@@ -34,6 +34,7 @@ fn count_records(chip: Chip, session: Session, samples: &[u8]) -> usize
     let map = [0u8; 1];
     let mut active = [0u8; 1];
     let mut buffer = [0u8; 1];
+    let mut words = [0u64; 1];
     let mut records = [0u8; 1];
     let passed = run_samples(
         chip,
@@ -42,6 +43,7 @@ fn count_records(chip: Chip, session: Session, samples: &[u8]) -> usize
         session,
         &mut active,
         &mut buffer,
+        &mut words,
         samples,
         &mut records,
     );

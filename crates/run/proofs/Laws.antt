@@ -12,6 +12,7 @@ use Rattle.bits.proofs.Buffer.{sets-append}
 use Rattle.sizes.specs.Sizes.{recordSize}
 use Rattle.settings.specs.declared.Settings.{Settings}
 use Rattle.chip.specs.declared.Chip.{Chip}
+use Rattle.regmap.specs.Format.{countOf}
 use Rattle.session.specs.declared.Port.{Port}
 use Rattle.session.specs.declared.Event.{Event}
 use Rattle.session.specs.Step.{stepOf}
@@ -19,11 +20,11 @@ use Rattle.session.specs.Event.{eventOf}
 use Rattle.trace.specs.Path.{Quiet, still, more, Next, none, one}
 use Rattle.trace.proofs.Paths.{settings-quiet}
 use Rattle.registers.specs.Banks.{Banks, banks, Mapped}
-use Rattle.records.specs.BanksAfter.{banksAfter, armedAfter}
+use Rattle.records.specs.BanksAfter.{banksAfter, armedAfter, touchedAfter}
 use Rattle.records.specs.Records.{recordOf}
 use Rattle.records.specs.declared.Took.{Took}
 use Rattle.records.specs.Contracts.{Taking, Taken}
-use Rattle.records.proofs.Laws.{mapped-after, record-size}
+use Rattle.records.proofs.Laws.{mapped-after, length-after, record-size}
 use Rattle.run.specs.Reading.{World, worldOf, eventAt, worldAfter, runOf, recordsOf, recordCount}
 use Rattle.run.specs.Contracts.{Ready, Done}
 
@@ -35,6 +36,7 @@ recordAt c m w x = recordOf c m (w .banks) (w .session .port .settings) (eventAt
 pub record Reading (c : Chip) (m xs : List ℕ) (w₀ w : World) (old new : List ℕ) (n i : ℕ) : Type 0 where
   pub within : i ≤ length xs
   pub mapped : Mapped m (w .banks)
+  pub bits : countOf m ≤ 64 * length (w .touched)
   pub same : length new ≡ length old
   pub size : n + length (recordsOf c m w (drop i xs)) ≡ length (recordsOf c m w₀ xs)
   pub room : length (recordsOf c m w₀ xs) ≤ length old
@@ -55,6 +57,7 @@ pub begun : (c : Chip) (m xs : List ℕ) (w : World) (old : List ℕ) → Ready 
 begun c m xs w old r = record {
   within = omega arith;
   mapped = r .mapped refl;
+  bits = r .bits refl;
   same = refl;
   size = omega arith;
   room = r .room refl;
@@ -64,13 +67,14 @@ begun c m xs w old r = record {
 
 module _ {c : Chip} {m xs : List ℕ} {w₀ w : World} {old new : List ℕ} {n i : ℕ} (h : i < length xs) (k : Reading c m xs w₀ w old new n i) where
   -- the next record has room
-  pub taking : Taking c m (w .banks) (w .session .port .settings) (eventAt c w (getD xs i 0)) new n
-  taking = record { mapped = k .mapped; room = omega (arith, simp length-append at (ap length (next-records c m xs w i h)), k) }
+  pub taking : Taking c m (w .banks) (w .touched) (w .session .port .settings) (eventAt c w (getD xs i 0)) new n
+  taking = record { mapped = k .mapped; bits = k .bits; room = omega (arith, simp length-append at (ap length (next-records c m xs w i h)), k) }
 
   pub turned : Reading c m xs w₀ (worldAfter c m w (getD xs i 0)) old (sets new n (recordAt c m w (getD xs i 0))) (n + length (recordAt c m w (getD xs i 0))) (i + 1)
   turned = record {
     within = omega arith;
     mapped = mapped-after c m (w .session .armed) (w .banks) (eventAt c w (getD xs i 0)) (k .mapped);
+    bits = rw (length-after c m (w .touched) (w .banks) (eventAt c w (getD xs i 0))) (k .bits);
     same = length-sets new n (recordAt c m w (getD xs i 0)) ∙ k .same;
     size = omega (arith, simp length-append at (ap length (next-records c m xs w i h)), k);
     room = k .room;
@@ -90,48 +94,49 @@ ended {c} {m} {xs} {w₀} {w} {old} {new} {n} {i} h k =
     }
 
 -- the same turn, by what the calls in it give
-again-one : {c : Chip} {m xs : List ℕ} {w₀ : World} {s : Port} {armed : Bool} {act buf old new : List ℕ} {n i : ℕ} → i < length xs
-    → Reading c m xs w₀ (worldOf s armed act buf) old new n i
-    → (e : Event) (act′ buf′ new′ : List ℕ) (took : Took) (s′ : Port) → e ≡ eventOf c s (getD xs i 0)
-    → Taken c m armed (banks act buf) (s .settings) e new n (banks act′ buf′) new′ took → s′ ≡ stepOf c s (getD xs i 0)
-    → Reading c m xs w₀ (worldOf s′ (took .armed) act′ buf′) old new′ (took .at) (i + 1)
-again-one {c} {m} {xs} {w₀} {s} {armed} {act} {buf} {old} {new} {n} {i} h k e act′ buf′ new′ took s′ ee t es =
+again-one : {c : Chip} {m xs : List ℕ} {w₀ : World} {s : Port} {armed : Bool} {act buf ws old new : List ℕ} {n i : ℕ} → i < length xs
+    → Reading c m xs w₀ (worldOf s armed act buf ws) old new n i
+    → (e : Event) (act′ buf′ ws′ new′ : List ℕ) (took : Took) (s′ : Port) → e ≡ eventOf c s (getD xs i 0)
+    → Taken c m armed (banks act buf) ws (s .settings) e new n (banks act′ buf′) ws′ new′ took → s′ ≡ stepOf c s (getD xs i 0)
+    → Reading c m xs w₀ (worldOf s′ (took .armed) act′ buf′ ws′) old new′ (took .at) (i + 1)
+again-one {c} {m} {xs} {w₀} {s} {armed} {act} {buf} {ws} {old} {new} {n} {i} h k e act′ buf′ ws′ new′ took s′ ee t es =
     let eb : banks act′ buf′ ≡ banksAfter c m armed (banks act buf) (eventOf c s (getD xs i 0)) = t .banks-after ∙ rw ee in
+    let et : ws′ ≡ touchedAfter c m ws (banks act buf) (eventOf c s (getD xs i 0)) = t .words-after ∙ rw ee in
     let ek : took .armed ≡ armedAfter c m armed (banks act buf) (eventOf c s (getD xs i 0)) = t .armed-after ∙ rw ee in
-    let ew : worldOf s′ (took .armed) act′ buf′ ≡ worldAfter c m (worldOf s armed act buf) (getD xs i 0) =
-    λ i. record { session = record { port = es i; armed = ek i }; banks = eb i } in
-    let en : took .at ≡ n + length (recordAt c m (worldOf s armed act buf) (getD xs i 0)) = t .next-place ∙ rw ee in
-    let er : new′ ≡ sets new n (recordAt c m (worldOf s armed act buf) (getD xs i 0)) = t .records-after ∙ rw ee in
+    let ew : worldOf s′ (took .armed) act′ buf′ ws′ ≡ worldAfter c m (worldOf s armed act buf ws) (getD xs i 0) =
+    λ i. record { session = record { port = es i; armed = ek i }; banks = eb i; touched = et i } in
+    let en : took .at ≡ n + length (recordAt c m (worldOf s armed act buf ws) (getD xs i 0)) = t .next-place ∙ rw ee in
+    let er : new′ ≡ sets new n (recordAt c m (worldOf s armed act buf ws) (getD xs i 0)) = t .records-after ∙ rw ee in
     rw (ew, en, er) (turned h k)
 
 -- samples that give no event
-still-reading : {c : Chip} {m xs : List ℕ} {w₀ : World} {s t : Port} {armed : Bool} {act buf old new : List ℕ} {n i j : ℕ}
-    → Reading c m xs w₀ (worldOf s armed act buf) old new n i → Quiet c xs s i t j → Reading c m xs w₀ (worldOf t armed act buf) old new n j
-unfolding banksAfter armedAfter recordOf
+still-reading : {c : Chip} {m xs : List ℕ} {w₀ : World} {s t : Port} {armed : Bool} {act buf ws old new : List ℕ} {n i j : ℕ}
+    → Reading c m xs w₀ (worldOf s armed act buf ws) old new n i → Quiet c xs s i t j → Reading c m xs w₀ (worldOf t armed act buf ws) old new n j
+unfolding banksAfter armedAfter touchedAfter recordOf
 still-reading k still = k
 still-reading {n = n} k (more q h e) = rw (e, add-zero n) at (turned h (still-reading k q))
 
 -- what the next event asks
-pub taking-next : {c : Chip} {m xs : List ℕ} {w₀ : World} {s t : Port} {armed : Bool} {act buf old new : List ℕ} {n i j : ℕ} {e : Event}
-    → Reading c m xs w₀ (worldOf s armed act buf) old new n i → Next c xs s i e t j → Taking c m (banks act buf) (s .settings) e new n
+pub taking-next : {c : Chip} {m xs : List ℕ} {w₀ : World} {s t : Port} {armed : Bool} {act buf ws old new : List ℕ} {n i j : ℕ} {e : Event}
+    → Reading c m xs w₀ (worldOf s armed act buf ws) old new n i → Next c xs s i e t j → Taking c m (banks act buf) ws (s .settings) e new n
 unfolding recordOf
-taking-next k (none q) = record { mapped = k .mapped; room = omega (arith, k) }
-taking-next {c} {m} {act = act} {buf} {new = new} {n} {e = e} k (one q h) =
-    subst (λ (t : Settings). Taking c m (banks act buf) t e new n) (settings-quiet q) (taking h (still-reading k q))
+taking-next k (none q) = record { mapped = k .mapped; bits = k .bits; room = omega (arith, k) }
+taking-next {c} {m} {act = act} {buf} {ws} {new = new} {n} {e = e} k (one q h) =
+    subst (λ (t : Settings). Taking c m (banks act buf) ws t e new n) (settings-quiet q) (taking h (still-reading k q))
 
 -- samples up to an event, by what the calls in a turn give
-pub again : {c : Chip} {m xs : List ℕ} {w₀ : World} {s t : Port} {armed : Bool} {act buf old new : List ℕ} {n i j : ℕ} {e : Event}
-    → Reading c m xs w₀ (worldOf s armed act buf) old new n i → Next c xs s i e t j → (act′ buf′ new′ : List ℕ) (took : Took)
-    → Taken c m armed (banks act buf) (s .settings) e new n (banks act′ buf′) new′ took → Reading c m xs w₀ (worldOf t (took .armed) act′ buf′) old new′ (took .at) j
-unfolding banksAfter armedAfter recordOf
-again {c} {m} {t = t} {armed} {act} {buf} {new = new} {n} k (none q) act′ buf′ new′ took a =
-    let ew : worldOf t (took .armed) act′ buf′ ≡ worldOf t armed act buf =
-    λ i. record { session = record { port = t; armed = a .armed-after i }; banks = a .banks-after i } in
+pub again : {c : Chip} {m xs : List ℕ} {w₀ : World} {s t : Port} {armed : Bool} {act buf ws old new : List ℕ} {n i j : ℕ} {e : Event}
+    → Reading c m xs w₀ (worldOf s armed act buf ws) old new n i → Next c xs s i e t j → (act′ buf′ ws′ new′ : List ℕ) (took : Took)
+    → Taken c m armed (banks act buf) ws (s .settings) e new n (banks act′ buf′) ws′ new′ took → Reading c m xs w₀ (worldOf t (took .armed) act′ buf′ ws′) old new′ (took .at) j
+unfolding banksAfter armedAfter touchedAfter recordOf
+again {c} {m} {t = t} {armed} {act} {buf} {ws} {new = new} {n} k (none q) act′ buf′ ws′ new′ took a =
+    let ew : worldOf t (took .armed) act′ buf′ ws′ ≡ worldOf t armed act buf ws =
+    λ i. record { session = record { port = t; armed = a .armed-after i }; banks = a .banks-after i; touched = a .words-after i } in
     let en : took .at ≡ n = a .next-place ∙ add-zero n in
     rw (ew, en, a .records-after) (still-reading k q)
-again {c} {m} {armed = armed} {act} {buf} {new = new} {n} {e = e} k (one q h) act′ buf′ new′ took a =
-    again-one h (still-reading k q) e act′ buf′ new′ took _ refl
-    (subst (λ (t : Settings). Taken c m armed (banks act buf) t e new n (banks act′ buf′) new′ took) (sym (settings-quiet q)) a) refl
+again {c} {m} {armed = armed} {act} {buf} {ws} {new = new} {n} {e = e} k (one q h) act′ buf′ ws′ new′ took a =
+    again-one h (still-reading k q) e act′ buf′ ws′ new′ took _ refl
+    (subst (λ (t : Settings). Taken c m armed (banks act buf) ws t e new n (banks act′ buf′) ws′ new′ took) (sym (settings-quiet q)) a) refl
 
 -- the size of a record for each
 pub records-size : (c : Chip) (m xs : List ℕ) (w : World) → length (recordsOf c m w xs) ≡ recordSize * recordCount c (w .session .port) xs

@@ -27,16 +27,16 @@ running-begun {c} {put} {m} {xs} {w} {old} r = record {
   reading = λ p. begun c m xs w old (subst (λ (b : Bool). Ready c b m w xs old) p r);
 }
 
-module _ {c : Chip} {put : Bool} {m xs : List ℕ} {w₀ : World} {s t : Port} {armed : Bool} {act buf old new : List ℕ} {size i j : ℕ} {e : Event}
-    (k : Running c put m xs w₀ (worldOf s armed act buf) old new size i) (n : Next c xs s i e t j) where
-  pub passing : length xs ≤ 65536 → Passing c put m (banks act buf) (s .settings) e new size
+module _ {c : Chip} {put : Bool} {m xs : List ℕ} {w₀ : World} {s t : Port} {armed : Bool} {act buf ws old new : List ℕ} {size i j : ℕ} {e : Event}
+    (k : Running c put m xs w₀ (worldOf s armed act buf ws) old new size i) (n : Next c xs s i e t j) where
+  pub passing : length xs ≤ 65536 → Passing c put m (banks act buf) ws (s .settings) e new size
   passing few = record { fits = size-fits few (counted-next (k .counting) n); taking = λ p. taking-next (k .reading p) n }
 
-  pub running-on : {act′ buf′ new′ : List ℕ} {took : Took} → Past c put m armed (banks act buf) (s .settings) e new size (banks act′ buf′) new′ took
-      → Running c put m xs w₀ (worldOf t (took .armed) act′ buf′) old new′ (took .at) j
+  pub running-on : {act′ buf′ ws′ new′ : List ℕ} {took : Took} → Past c put m armed (banks act buf) ws (s .settings) e new size (banks act′ buf′) ws′ new′ took
+      → Running c put m xs w₀ (worldOf t (took .armed) act′ buf′ ws′) old new′ (took .at) j
   running-on a = record {
     counting = rw (a .next-place) (counted-next (k .counting) n);
-    reading = λ p. again (k .reading p) n _ _ _ _ (a .taken p);
+    reading = λ p. again (k .reading p) n _ _ _ _ _ (a .taken p);
   }
 
 pub running-ended : {c : Chip} {put : Bool} {m xs : List ℕ} {w₀ w : World} {old new : List ℕ} {size i : ℕ} → Running c put m xs w₀ w old new size i → length xs ≤ i

@@ -1,5 +1,5 @@
--- Document 01, "Samples and edges" and "Records": what a list of samples does, the session and the banks after it, and its records
--- in order of time.
+-- Document 01, "Samples and edges" and "Records": what a list of samples does, the session, the banks and the words of touched registers
+-- after it, and its records in order of time.
 use Prim.Native.Nat.{ℕ, _+_}
 use mathlib.Core.Bool.{Bool}
 use mathlib.Core.List.{List, [], _∷_, _++_}
@@ -10,30 +10,32 @@ use Rattle.session.specs.declared.Event.{Event}
 use Rattle.session.specs.Step.{stepOf}
 use Rattle.session.specs.Event.{eventOf}
 use Rattle.registers.specs.Banks.{Banks, banks}
-use Rattle.records.specs.BanksAfter.{banksAfter, armedAfter}
+use Rattle.records.specs.BanksAfter.{banksAfter, armedAfter, touchedAfter}
 use Rattle.records.specs.Records.{recordOf, recordsIn}
 
--- a session and its banks
+-- a session, its banks, and the words of touched registers (document 02, Ask 7)
 pub record World : Type 0 where
   pub session : Session
   pub banks : Banks
+  pub touched : List ℕ
 
-abbrev pub world : Session → List ℕ → List ℕ → World
-world s active buffer = record { session = s; banks = banks active buffer }
+abbrev pub world : Session → List ℕ → List ℕ → List ℕ → World
+world s active buffer words = record { session = s; banks = banks active buffer; touched = words }
 
 -- the same by the session's two parts
-abbrev pub worldOf : Port → Bool → List ℕ → List ℕ → World
-worldOf p armed active buffer = world (record { port = p; armed = armed }) active buffer
+abbrev pub worldOf : Port → Bool → List ℕ → List ℕ → List ℕ → World
+worldOf p armed active buffer words = world (record { port = p; armed = armed }) active buffer words
 
 -- what the next sample completes: the port alone decides it
 abbrev pub eventAt : Chip → World → ℕ → Event
 eventAt c w x = eventOf c (w .session .port) x
 
--- One sample: the port steps by itself; the banks, and whether the session is armed, follow from what the sample completes.
+-- One sample: the port steps by itself; all else follows from what the sample completes.
 abbrev pub worldAfter : Chip → List ℕ → World → ℕ → World
 worldAfter c m w x = record {
   session = record { port = stepOf c (w .session .port) x; armed = armedAfter c m (w .session .armed) (w .banks) (eventAt c w x) };
   banks = banksAfter c m (w .session .armed) (w .banks) (eventAt c w x);
+  touched = touchedAfter c m (w .touched) (w .banks) (eventAt c w x);
 }
 
 -- all samples

@@ -1,5 +1,5 @@
-// What a list of samples does, in one pass over them from event to event: the session and the banks that they lead to, and their
-// records, put or only counted.
+// What a list of samples does, in one pass over them from event to event: the session, the banks and the words that they lead to, and
+// their records, put or only counted.
 ghost use Rattle.registers.specs.Banks.{banks};
 ghost use Rattle.run.specs.Reading.{world};
 ghost use Rattle.run.specs.Contracts.{Passing, Past, Ready, Ran};
@@ -26,14 +26,15 @@ fn pass_event(
     map: &[u8],
     active: &mut [u8],
     buffer: &mut [u8],
+    words: &mut [u64],
     settings: Settings,
     armed: bool,
     event: Event,
     records: &mut [u8],
     at: usize,
 ) -> Took
-    requires { ⌜ Passing chip put (now map) (banks (now active) (now buffer)) settings event (now records) at ⌝ }
-    ensures { λ r. ⌜ Past chip put (now (map .entry)) armed (banks (now (active .entry)) (now (buffer .entry))) settings event (now (records .entry)) at (banks (now (active .exit)) (now (buffer .exit))) (now (records .exit)) r ⌝ }
+    requires { ⌜ Passing chip put (now map) (banks (now active) (now buffer)) (now words) settings event (now records) at ⌝ }
+    ensures { λ r. ⌜ Past chip put (now (map .entry)) armed (banks (now (active .entry)) (now (buffer .entry))) (now (words .entry)) settings event (now (records .entry)) at (banks (now (active .exit)) (now (buffer .exit))) (now (words .exit)) (now (records .exit)) r ⌝ }
 {
     if put {
         return take_event(
@@ -41,6 +42,7 @@ fn pass_event(
             map,
             active,
             buffer,
+            words,
             settings,
             armed,
             event,
@@ -63,11 +65,12 @@ pub fn run_samples(
     session: Session,
     active: &mut [u8],
     buffer: &mut [u8],
+    words: &mut [u64],
     samples: &[u8],
     records: &mut [u8],
 ) -> Passed
-    requires { ⌜ Ready chip put (now map) (world session (now active) (now buffer)) (now samples) (now records) ⌝ }
-    ensures { λ r. ⌜ Ran chip put (now (map .entry)) (world session (now (active .entry)) (now (buffer .entry))) (now (samples .entry)) (now (records .entry)) (world (r .session) (now (active .exit)) (now (buffer .exit))) (r .size) (now (records .exit)) ⌝ }
+    requires { ⌜ Ready chip put (now map) (world session (now active) (now buffer) (now words)) (now samples) (now records) ⌝ }
+    ensures { λ r. ⌜ Ran chip put (now (map .entry)) (world session (now (active .entry)) (now (buffer .entry)) (now (words .entry))) (now (samples .entry)) (now (records .entry)) (world (r .session) (now (active .exit)) (now (buffer .exit)) (now (words .exit))) (r .size) (now (records .exit)) ⌝ }
 {
     let mut port = session.port;
     let mut armed = session.armed;
@@ -83,6 +86,7 @@ pub fn run_samples(
             map,
             active,
             buffer,
+            words,
             settings,
             armed,
             event,

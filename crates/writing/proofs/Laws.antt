@@ -25,7 +25,7 @@ use Rattle.writing.specs.declared.Stages.{Stages}
 use Rattle.writing.specs.declared.Effect.{Effect}
 use Rattle.writing.specs.declared.Effect.the-variants.{Nothing, Active, Buffer, Control, Transfer, Reset, Ignored}
 use Rattle.writing.specs.Effect.{controlEffect, movedBits, effectOf}
-use Rattle.writing.specs.Write.{effectAt, applied, onByte, writeBanks, writtenBy, writtenOf}
+use Rattle.writing.specs.Write.{effectAt, applied, onByte, touchesOn, writeBanks, writtenBy, writtenOf}
 use Rattle.writing.specs.Rise.{movesAtRise, armedBy, armedOn, riseBanks}
 
 -- ---- no effect on a control register is on a byte
@@ -112,3 +112,14 @@ armed-number c m armed t a v Control = refl
 armed-number c m armed t a v Transfer = refl
 armed-number c m armed t a v Reset = refl
 armed-number c m armed t a v Ignored = refl
+
+-- and it touches a register just as the effect does
+pub touches-number : (c : Chip) (t : Settings) (a v : ℕ) (e : Effect) → touchesOn (writtenBy c t a v e .effect) ≡ onByte e
+unfolding writtenBy
+touches-number c t a v Nothing = refl
+touches-number c t a v (Active byte moved) = refl
+touches-number c t a v (Buffer byte moved) = refl
+touches-number c t a v Control = refl
+touches-number c t a v Transfer = refl
+touches-number c t a v Reset = refl
+touches-number c t a v Ignored = refl

@@ -1,8 +1,9 @@
 -- Document 01, "What a whole byte does": the banks after a write of v, and what the write answers.
 use Prim.Native.Nat.{ℕ}
 use mathlib.Core.Path.{_≡_}
-use mathlib.Core.Bool.{Bool, true, false}
+use mathlib.Core.Bool.{Bool, true, false, _||_}
 use mathlib.Core.List.{List}
+use lib.Dec.{eqb}
 use lib.ListN.{getD, set}
 use Rattle.regmap.specs.Format.{registerAt}
 use Rattle.chip.specs.declared.Chip.{Chip}
@@ -73,3 +74,7 @@ onByte Control = false
 onByte Transfer = false
 onByte Reset = false
 onByte Ignored = false
+
+-- the same by the effect's number, which is 1 or 2
+abbrev pub touchesOn : ℕ → Bool
+touchesOn effect = eqb effect 1 || eqb effect 2

@@ -4,7 +4,7 @@ ghost use mathlib.Core.Bool.{true};
 ghost use Prim.Native.Nat.{_<_};
 ghost use lib.ListN.{length};
 ghost use Rattle.registers.specs.Banks.{banks, Mapped};
-ghost use Rattle.writing.specs.Write.{stagesAt, applied, onByte, written, controlWritten, writtenBy, Wrote};
+ghost use Rattle.writing.specs.Write.{stagesAt, applied, onByte, touchesOn, written, controlWritten, writtenBy, Wrote};
 
 mod rise;
 mod rule;
@@ -18,7 +18,9 @@ pub use rise::end_frame;
 pub use rule::effect_of;
 use settings::Settings;
 
-// The numbers of two effects: the buffer byte of a register was written; a soft reset.
+// The numbers of three effects: the active byte of a register was written; its buffer byte was; a soft reset.
+const EFFECT_ACTIVE: u8 = 1;
+
 const EFFECT_BUFFER: u8 = 2;
 
 const EFFECT_RESET: u8 = 5;
@@ -45,6 +47,13 @@ pub struct Written {
     pub byte: u8,
     pub effect: u8,
     pub moved: u8,
+}
+
+// Whether the effect of this number is on the byte of one register, which is then touched.
+pub fn touches(effect: u8) -> bool
+    ensures { λ r. ⌜ r ≡ touchesOn effect ⌝ }
+{
+    (effect == EFFECT_ACTIVE) | (effect == EFFECT_BUFFER)
 }
 
 // The bytes of one register in both stages.
@@ -115,7 +124,7 @@ fn apply(
             active[at] = byte;
             Written {
                 byte: byte,
-                effect: 1,
+                effect: EFFECT_ACTIVE,
                 moved: moved,
             }
         }

@@ -9,7 +9,8 @@ use super::older::{another_top, any_older, PARTS};
 use super::random::Random;
 use super::sessions::sound_session;
 use super::traces::{clocks, noise, trace};
-use crate::calls::{Call, Given};
+use super::words::{another_length, any_words};
+use crate::calls::{Call, Given, Left};
 use crate::layout::{to_bytes, SESSION_SIZE};
 use crate::second::older::Older;
 use crate::second::reader::RECORD;
@@ -25,29 +26,32 @@ pub enum Wrong {
     MapEntry,
     Banks,
     Top,
+    Words,
     Samples,
     Room,
 }
 
 impl Wrong {
-    /// Those of a newer chip's calls, by their numbers.
-    pub const ALL: [Wrong; 6] = [
+    /// Those of a newer chip's calls, in the order in which they are looked for: 16
+    /// comes after 4.
+    pub const ALL: [Wrong; 7] = [
         Wrong::Session,
         Wrong::MapForm,
         Wrong::MapEntry,
         Wrong::Banks,
+        Wrong::Words,
         Wrong::Samples,
         Wrong::Room,
     ];
 
-    /// Those of an older chip's, in the order in which they are looked for: 12 comes
-    /// after 4.
-    pub const OLDER: [Wrong; 7] = [
+    /// The same of an older chip's: 12 comes after 4, and 16 after 12.
+    pub const OLDER: [Wrong; 8] = [
         Wrong::Session,
         Wrong::MapForm,
         Wrong::MapEntry,
         Wrong::Banks,
         Wrong::Top,
+        Wrong::Words,
         Wrong::Samples,
         Wrong::Room,
     ];
@@ -59,6 +63,7 @@ impl Wrong {
             Wrong::MapEntry => 3,
             Wrong::Banks => 4,
             Wrong::Top => 12,
+            Wrong::Words => 16,
             Wrong::Samples => 5,
             Wrong::Room => 6,
         }
@@ -72,6 +77,7 @@ impl Wrong {
             Wrong::MapEntry => spoil_entry(random, given),
             Wrong::Banks => spoil_banks(random, given),
             Wrong::Top => spoil_top(random, given),
+            Wrong::Words => spoil_words(random, &mut given.words),
             Wrong::Samples => spoil_samples(random, &mut given.samples),
             Wrong::Room => unreachable!("the room depends on the call"),
         }
@@ -150,6 +156,12 @@ fn spoil_banks(random: &mut Random, given: &mut Given) {
     }
 }
 
+/// Gives the words another number.
+fn spoil_words(random: &mut Random, words: &mut Vec<u64>) {
+    let length = another_length(random, words.len());
+    words.resize(length, random.number());
+}
+
 /// Sets a spare bit of one sample, or adds samples until they are too many.
 fn spoil_samples(random: &mut Random, samples: &mut Vec<u8>) {
     if random.one_in(40) {
@@ -163,14 +175,14 @@ fn spoil_samples(random: &mut Random, samples: &mut Vec<u8>) {
     samples[at] |= 1 << random.between(4, 7);
 }
 
-/// A list of calls on one map: each gets the session and the banks as the last
-/// one left them, and the samples that are next. Or on several maps of as many
+/// A list of calls on one map: each gets the session, the banks and the words as the
+/// last one left them, and the samples that are next. Or on several maps of as many
 /// registers, for chips between which the session is handed on.
 pub struct Chain {
     random: Random,
     /// The chips, and the map of each.
     chips: Vec<(Option<Older>, Vec<u8>)>,
-    /// Session and banks as they now are.
+    /// Session, banks and words as they now are.
     pub given: Given,
     trace: Vec<u8>,
     at: usize,
@@ -234,6 +246,7 @@ impl Chain {
             given.session = to_bytes(&session);
             given.active = random.bytes(count);
             given.buffer = random.bytes(count);
+            given.words = any_words(&mut random, count);
         }
         Chain { random, chips, given, trace, at: 0, longest }
     }
@@ -263,7 +276,7 @@ impl Chain {
             given.session = random.bytes(SESSION_SIZE).try_into().expect("a session's size");
         }
         let possible = |wrong: &Wrong| match wrong {
-            Wrong::Session => call != Call::Open,
+            Wrong::Session | Wrong::Words => call != Call::Open,
             Wrong::Room => due > 0,
             Wrong::Top => given.older.is_some(),
             _ => true,
@@ -273,9 +286,14 @@ impl Chain {
         (call, given)
     }
 
-    /// Moves on by so many samples.
-    pub fn take(&mut self, samples: usize) {
-        self.at += samples;
+    /// Goes on from what a call left that was done.
+    pub fn go_on(&mut self, call: Call, given: &Given, left: &Left) {
+        self.given.go_on(left);
+        self.at += match call {
+            Call::Open => 0,
+            Call::Read => given.samples.len(),
+            Call::NextRecord => left.taken as usize,
+        };
     }
 
     pub fn is_over(&self) -> bool {

@@ -12,6 +12,7 @@ pub mod random;
 pub mod sessions;
 pub mod setups;
 pub mod traces;
+pub mod words;
 
 use maps::Damage;
 use random::Random;

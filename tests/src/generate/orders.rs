@@ -2,18 +2,20 @@
 
 use super::maps::good_map;
 use super::random::Random;
+use super::words::any_words;
 use crate::chip::{settings_of, Chip};
 use crate::second::sender::{send, Order};
 use crate::second::session::{Session, CSB, SCLK};
 use crate::second::settings::Settings;
 
-/// A chip at rest, its banks at will, its settings those of the order where an
+/// A chip at rest, its banks and words at will, its settings those of the order where an
 /// order can name them.
 pub fn chip_at_rest(random: &mut Random, settings: u64) -> Chip {
     let count = random.between(16, 48);
     let mut chip = Chip::opened(&good_map(random, count));
     chip.active = random.bytes(count);
     chip.buffer = random.bytes(count);
+    chip.words = any_words(random, count);
     let others = [Settings::SDO_ACTIVE, Settings::BUFFER_READBACK];
     let at_will = others.into_iter().filter(|_| random.coin());
     let settings = at_will.fold(settings_of(settings), Settings::with);

@@ -16,6 +16,7 @@
 //! | `converter` | document 02, Ask 3 |
 //! | `registers`, `reader` | document 02, Ask 4: what arms a session, and what its end moves |
 //! | `setup` | document 02, Ask 6 |
+//! | `touched` | document 02, Ask 7; `registers` sets the bits |
 //! | `mend` | document 02, Ask 12 |
 //! | `frames` | document 02, Ask 13 |
 //! | `verdict` | the rule of the bench report, docs/RULES.md |
@@ -36,6 +37,7 @@ pub mod sender;
 pub mod session;
 pub mod settings;
 pub mod setup;
+pub mod touched;
 pub mod verdict;
 
 /// What a call that fills a lent buffer gives back: the number, and how many

@@ -2,6 +2,7 @@
 //! it up to its next record.
 
 use super::map::RegisterMap;
+pub use super::registers::Banks;
 use super::registers::Registers;
 use super::rules::{Newer, Rules};
 use super::session::{Event, Session};
@@ -27,7 +28,9 @@ pub fn open_by(
     active: &mut [u8],
     buffer: &mut [u8],
 ) -> (u8, Session) {
-    let number = match registers_of(rules, map, active, buffer) {
+    let registers =
+        RegisterMap::new(rules, map).and_then(|map| Registers::new(rules, map, active, buffer));
+    let number = match registers {
         Ok(mut registers) => {
             registers.put_defaults();
             0
@@ -41,38 +44,35 @@ pub fn open_by(
 fn registers_of<'a, R: Rules>(
     rules: R,
     map: &'a [u8],
-    active: &'a mut [u8],
-    buffer: &'a mut [u8],
+    banks: Banks<'a>,
 ) -> Result<Registers<'a, R>, u8> {
-    RegisterMap::new(rules, map).and_then(|map| Registers::new(rules, map, active, buffer))
+    RegisterMap::new(rules, map).and_then(|map| Registers::for_reader(rules, map, banks))
 }
 
-/// Reads the samples on from the session. With a refusal (1 to 6) session,
-/// banks and records stay as they were.
+/// Reads the samples on from the session. With a refusal session, banks,
+/// words and records stay as they were.
 pub fn read(
     map: &[u8],
     session: &mut Session,
-    active: &mut [u8],
-    buffer: &mut [u8],
+    banks: Banks,
     samples: &[u8],
     records: &mut [u8],
 ) -> Answer {
-    read_by(Newer, map, session, active, buffer, samples, records)
+    read_by(Newer, map, session, banks, samples, records)
 }
 
 pub fn read_by(
     rules: impl Rules,
     map: &[u8],
     session: &mut Session,
-    active: &mut [u8],
-    buffer: &mut [u8],
+    banks: Banks,
     samples: &[u8],
     records: &mut [u8],
 ) -> Answer {
     if !rules.is_sound(session) {
         return Answer::refused(1);
     }
-    match registers_of(rules, map, active, buffer) {
+    match registers_of(rules, map, banks) {
         Ok(mut registers) => read_into(&mut registers, session, samples, records),
         Err(number) => Answer::refused(number),
     }
@@ -104,27 +104,25 @@ pub(super) fn read_into(
 pub fn next_record(
     map: &[u8],
     session: &mut Session,
-    active: &mut [u8],
-    buffer: &mut [u8],
+    banks: Banks,
     samples: &[u8],
     records: &mut [u8],
 ) -> (Answer, usize) {
-    next_record_by(Newer, map, session, active, buffer, samples, records)
+    next_record_by(Newer, map, session, banks, samples, records)
 }
 
 pub fn next_record_by(
     rules: impl Rules,
     map: &[u8],
     session: &mut Session,
-    active: &mut [u8],
-    buffer: &mut [u8],
+    banks: Banks,
     samples: &[u8],
     records: &mut [u8],
 ) -> (Answer, usize) {
     if !rules.is_sound(session) {
         return (Answer::refused(1), 0);
     }
-    match registers_of(rules, map, active, buffer) {
+    match registers_of(rules, map, banks) {
         Ok(mut registers) => next_record_into(&mut registers, session, samples, records),
         Err(number) => (Answer::refused(number), 0),
     }

@@ -3,6 +3,7 @@
 use super::map::{RegisterMap, BLANK, BUFFERED, CONTROL, PLAIN, READ_ONLY, TRANSFER_ON_RISE};
 use super::rules::Rules;
 use super::settings::Settings;
+use super::touched::{touch, words_for};
 
 pub const NO_EFFECT: u8 = 0;
 pub const ACTIVE_WRITTEN: u8 = 1;
@@ -17,8 +18,19 @@ pub struct Registers<'a, R> {
     map: RegisterMap<'a>,
     active: &'a mut [u8],
     buffer: &'a mut [u8],
+    /// A bit for each register that was touched (document 02, Ask 7). None while
+    /// nothing is written but defaults.
+    words: &'a mut [u64],
     /// Whether the end of a frame may move buffered registers.
     moves_on_rise: bool,
+}
+
+/// What a caller lends for the registers of a map: a byte of each stage for each, and
+/// the words of those that were touched.
+pub struct Banks<'a> {
+    pub active: &'a mut [u8],
+    pub buffer: &'a mut [u8],
+    pub words: &'a mut [u64],
 }
 
 /// What a write leaves: the byte of the stage written, or the control reading;
@@ -44,7 +56,19 @@ impl<'a, R: Rules> Registers<'a, R> {
             Err(12)
         } else {
             let moves_on_rise = !R::OLDER && map.flags() & TRANSFER_ON_RISE != 0;
-            Ok(Registers { rules, map, active, buffer, moves_on_rise })
+            Ok(Registers { rules, map, active, buffer, words: &mut [], moves_on_rise })
+        }
+    }
+
+    /// The same for a reader, which also touches: there is a word for every 64
+    /// registers, or the number 16 refuses.
+    pub fn for_reader(rules: R, map: RegisterMap<'a>, banks: Banks<'a>) -> Result<Self, u8> {
+        let Banks { active, buffer, words } = banks;
+        let registers = Registers::new(rules, map, active, buffer)?;
+        if words.len() == words_for(map.count()) {
+            Ok(Registers { words, ..registers })
+        } else {
+            Err(16)
         }
     }
 
@@ -64,8 +88,14 @@ impl<'a, R: Rules> Registers<'a, R> {
             None | Some([BLANK | READ_ONLY, ..]) => {
                 Written { byte: 0, effect: NO_EFFECT, moved: 0 }
             }
-            Some([PLAIN, mask, _]) => write_stage(&mut self.active[at], mask, v, ACTIVE_WRITTEN),
-            Some([BUFFERED, mask, _]) => write_stage(&mut self.buffer[at], mask, v, BUFFER_WRITTEN),
+            Some([PLAIN, mask, _]) => {
+                touch(self.words, address);
+                write_stage(&mut self.active[at], mask, v, ACTIVE_WRITTEN)
+            }
+            Some([BUFFERED, mask, _]) => {
+                touch(self.words, address);
+                write_stage(&mut self.buffer[at], mask, v, BUFFER_WRITTEN)
+            }
             Some(_) => {
                 let effect = self.rules.control_effect(address, v);
                 match effect {

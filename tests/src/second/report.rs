@@ -4,10 +4,11 @@ use std::io::{self, Read, Write};
 
 use super::map::{whole_length, RegisterMap};
 use super::reader::{self, most_records, RECORD, WRITE};
-use super::registers::Registers;
+use super::registers::{Banks, Registers};
 use super::rules::Newer;
 use super::session::Session;
 use super::settings::asks_slow;
+use super::touched::words_for;
 
 pub const PIECE: usize = 4_096;
 const LARGEST_COUNT: usize = 8_192;
@@ -34,9 +35,14 @@ pub fn report_to(mut input: impl Read, mut output: impl Write) -> io::Result<()>
     };
     writeln!(output, "map {}", map.count())?;
     let (mut active, mut buffer) = ([0; LARGEST_COUNT], [0; LARGEST_COUNT]);
-    let (active, buffer) = (&mut active[..map.count()], &mut buffer[..map.count()]);
+    let mut words = [0; words_for(LARGEST_COUNT)];
+    let banks = Banks {
+        active: &mut active[..map.count()],
+        buffer: &mut buffer[..map.count()],
+        words: &mut words[..words_for(map.count())],
+    };
     let mut registers =
-        Registers::new(Newer, map, active, buffer).expect("the banks were cut to the count");
+        Registers::for_reader(Newer, map, banks).expect("the banks were cut to the count");
     registers.put_defaults();
     report_trace(registers, input, output)
 }

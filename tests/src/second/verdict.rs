@@ -2,10 +2,11 @@
 //! implementation reads: a list of the conditions that fail, by their names.
 
 use super::map::{RegisterMap, BLANK, BUFFERED};
-use super::reader::{next_record, open, CUT, READ, RECORD, WRITE};
+use super::reader::{next_record, open, Banks, CUT, READ, RECORD, WRITE};
 use super::registers::NO_EFFECT;
 use super::rules::Newer;
 use super::session::Session;
+use super::touched::words_for;
 
 const PIECE: usize = 65_536;
 
@@ -22,13 +23,14 @@ impl Recording {
     pub fn read(map: &[u8], samples: &[u8]) -> Self {
         let count = RegisterMap::new(Newer, map).expect("a good map").count();
         let (mut active, mut buffer) = (vec![0; count], vec![0; count]);
+        let mut words = vec![0; words_for(count)];
         let (_, mut session) = open(map, &mut active, &mut buffer);
         let (mut records, mut at) = (Vec::new(), 0);
         while at < samples.len() {
             let piece = &samples[at..samples.len().min(at + PIECE)];
             let mut record = [0; RECORD];
-            let (answer, taken) =
-                next_record(map, &mut session, &mut active, &mut buffer, piece, &mut record);
+            let banks = Banks { active: &mut active, buffer: &mut buffer, words: &mut words };
+            let (answer, taken) = next_record(map, &mut session, banks, piece, &mut record);
             assert_eq!(answer.number, 0, "a recording that is not refused");
             at += taken;
             if answer.count == 1 {

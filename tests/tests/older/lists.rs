@@ -1,5 +1,6 @@
 //! The library's calls for older chips against the second implementation: number,
-//! counts, session, both banks and the whole record buffer, call by call.
+//! counts, session, both banks, the words of touched registers and the whole record
+//! buffer, call by call.
 
 use couplingnut_tests::calls::{Call, Comparison, Given, Left};
 use couplingnut_tests::environment::number_from;
@@ -11,6 +12,7 @@ use couplingnut_tests::generate::older::{any_older, PARTS};
 use couplingnut_tests::generate::random::Random;
 use couplingnut_tests::generate::sessions::with_every_setting;
 use couplingnut_tests::generate::traces::clocks;
+use couplingnut_tests::generate::words::any_words;
 use couplingnut_tests::guarded::Against;
 use couplingnut_tests::layout::{from_bytes, to_bytes};
 use couplingnut_tests::second::older::{Older, STREAMING};
@@ -58,15 +60,10 @@ fn compare_chain(comparison: &mut Comparison, mut chain: Chain, kinds: &mut Kind
         }
         let (call, given) = chain.next_call();
         let left = comparison.call(call, &given);
-        // A refused call left the session and the banks that it was given.
+        // A refused call left the session, the banks and the words that it was given.
         if left.number == 0 {
             kinds.note(&left);
-            chain.given.go_on(&left);
-            chain.take(match call {
-                Call::Open => 0,
-                Call::Read => given.samples.len(),
-                Call::NextRecord => left.taken as usize,
-            });
+            chain.go_on(call, &given, &left);
         }
     }
 }
@@ -86,8 +83,8 @@ fn lists_of_calls_agree() {
     if calls >= CALLS {
         let tally = &comparison.tally;
         tally.assert_numbers(Call::Open, &[0, 2, 3, 4, 12], 100);
-        tally.assert_numbers(Call::Read, &[0, 1, 2, 3, 4, 5, 6, 12], 300);
-        tally.assert_numbers(Call::NextRecord, &[0, 1, 2, 3, 4, 5, 6, 12], 300);
+        tally.assert_numbers(Call::Read, &[0, 1, 2, 3, 4, 5, 6, 12, 16], 300);
+        tally.assert_numbers(Call::NextRecord, &[0, 1, 2, 3, 4, 5, 6, 12, 16], 300);
         tally.assert_records(5, 100);
         assert!(kinds.0.iter().all(|&times| times > 1_000), "{:?}", kinds.0);
     }
@@ -108,7 +105,7 @@ fn lists_handed_from_chip_to_chip_agree() {
         compare_chain(&mut comparison, Chain::handed_on(seed), &mut kinds);
     }
     if calls >= CALLS / 2 {
-        comparison.tally.assert_numbers(Call::Read, &[0, 1, 2, 3, 4, 5, 6, 12], 100);
+        comparison.tally.assert_numbers(Call::Read, &[0, 1, 2, 3, 4, 5, 6, 12, 16], 100);
         assert!(kinds.0.iter().all(|&times| times > 200), "{:?}", kinds.0);
     }
 }
@@ -133,6 +130,7 @@ fn sessions_of_every_kind_are_read_on() {
         given.session = to_bytes(&session);
         given.active = random.bytes(0x0018);
         given.buffer = random.bytes(0x0018);
+        given.words = any_words(&mut random, 0x0018);
         given.samples = clocks(&mut random, 50);
         given.records = random.bytes(RECORD * 17);
         for call in Call::READING {
@@ -162,6 +160,7 @@ fn any_reading(random: &mut Random, length: usize) -> Given {
     given.session = to_bytes(&sound_older_session(random, older.top));
     given.active = random.bytes(count);
     given.buffer = random.bytes(count);
+    given.words = any_words(random, count);
     given.samples =
         if random.one_in(4) { clocks(random, length) } else { older_trace(random, older, length) };
     given.records = random.bytes(RECORD * most_records(length));
@@ -202,6 +201,7 @@ fn however_it_is_cut_a_trace_is_read_the_same() {
         let (after, records) = one_after_another(&mut comparison, &given);
         assert_eq!((&records[..], after.session), (whole, read.session), "seed {seed}");
         assert!(after.active == read.active && after.buffer == read.buffer, "seed {seed}");
+        assert_eq!(after.words, read.words, "seed {seed}");
 
         let longest = random.pick(&[1, 7, 60]);
         let mut now = given.clone();
@@ -216,6 +216,7 @@ fn however_it_is_cut_a_trace_is_read_the_same() {
         }
         assert_eq!((&records[..], now.session), (whole, read.session), "seed {seed}");
         assert!(now.active == read.active && now.buffer == read.buffer, "seed {seed}");
+        assert_eq!(now.words, read.words, "seed {seed}");
     }
 }
 

@@ -10,6 +10,7 @@ use couplingnut_tests::generate::older::sessions::{
 use couplingnut_tests::generate::older::traces::older_trace;
 use couplingnut_tests::generate::older::{another_top, any_older, PARTS};
 use couplingnut_tests::generate::random::Random;
+use couplingnut_tests::generate::words::any_words;
 use couplingnut_tests::guarded::Against;
 use couplingnut_tests::layout::{to_bytes, FLAGS, LEFT_AT, PHASE_AT, SESSION_SIZE, VERSION};
 use couplingnut_tests::second::older::Older;
@@ -24,6 +25,7 @@ fn good_call(random: &mut Random) -> Given {
     let count = given.active.len();
     given.active = random.bytes(count);
     given.buffer = random.bytes(count);
+    given.words = any_words(random, count);
     // A bit of an instruction, and the cut; then anything.
     given.samples = vec![0x00, 0x02, 0x01];
     let length = random.between(0, 200);
@@ -33,11 +35,11 @@ fn good_call(random: &mut Random) -> Given {
 }
 
 /// Calls that nothing refuses, with records, and then every set of reasons: 1, 2, 3,
-/// 4, 12, 5, 6.
+/// 4, 12, 16, 5, 6.
 #[test]
 fn twelve_comes_after_4_and_before_5() {
     let mut comparison = Comparison::new("older::refusals::twelve_comes_after_4_and_before_5");
-    for seed in 0..128 * 60 {
+    for seed in 0..256 * 60 {
         let mut random = Random::new(seed);
         comparison.begin(seed, Against::PageAfter);
         let wrongs: Vec<Wrong> =
@@ -57,7 +59,7 @@ fn twelve_comes_after_4_and_before_5() {
         assert_eq!(left.session, to_bytes(&Session::opened()));
     }
     let tally = &comparison.tally;
-    tally.assert_numbers(Call::Read, &[0, 1, 2, 3, 4, 5, 6, 12], 50);
+    tally.assert_numbers(Call::Read, &[0, 1, 2, 3, 4, 5, 6, 12, 16], 50);
     tally.assert_numbers(Call::Open, &[0, 2, 3, 4, 12], 50);
 }
 

@@ -124,6 +124,7 @@ fn the_newer_chips_controls_are_ordinary_registers() {
                 let line = format!("W {address:04X} {v:02X} {v:02X} 1 {moved:02X}");
                 assert_eq!(chip.write(address, &[v]), [line]);
                 let mut expected = before;
+                expected.touch(usize::from(address));
                 expected.active[usize::from(address)] = v;
                 assert_eq!(chip, expected);
                 assert_eq!(chip.due(address), v);

@@ -1,7 +1,7 @@
 //! The stopped run of older chips: whatever calls read it, and wherever it is
-//! stopped, both banks end as the book says. The run may then stand at a stall.
+//! stopped, both banks and the words of touched registers end as the book says. The run may then stand at a stall.
 
-use couplingnut_tests::book::book;
+use couplingnut_tests::book::{book, kept};
 use couplingnut_tests::chip::{sent_older, Chip};
 use couplingnut_tests::generate::older::orders::{any_older_write, older_addresses, older_at_rest};
 use couplingnut_tests::generate::random::Random;
@@ -68,7 +68,7 @@ fn assert_at_rest_or_stalled(session: &Session, order: &Order, s: usize) {
 #[test]
 fn both_banks_end_as_the_book_says() {
     let mut random = Random::new(1);
-    let (mut changed, mut clear) = (0, 0);
+    let (mut changed, mut clear, mut touched) = (0, 0, 0);
     for _ in 0..20_000 {
         let (mut chip, settings, start, data) = chip_and_write(&mut random);
         let top = chip.older.expect("an older chip").top;
@@ -79,13 +79,14 @@ fn both_banks_end_as_the_book_says() {
         let raise = CSB | random.byte() & 0x0E;
         read_by_calls(&mut random, &mut chip, &[&all[..s], &[raise]].concat());
 
-        let expected = book(&before, &order, s);
-        assert_eq!((&chip.active, &chip.buffer), (&expected.0, &expected.1), "{order:?} at {s}");
+        assert_eq!(kept(&chip), book(&before, &order, s), "{order:?} at {s}");
         assert_at_rest_or_stalled(&chip.session, &order, s);
         changed += usize::from(before.active != chip.active || before.buffer != chip.buffer);
+        touched += usize::from(before.words != chip.words);
         clear += usize::from(older_addresses(&order).iter().all(|a| ![0, 4].contains(a)));
     }
     assert!(changed > 4_000, "only {changed} runs changed a bank");
+    assert!(touched > 2_000, "only {touched} runs touched a register");
     assert!((5_000..18_000).contains(&clear), "{clear} runs are clear of 0x0000 and 0x0004");
 }
 
@@ -103,8 +104,7 @@ fn every_stop_of_a_run_ends_as_the_book_says() {
             let samples = [&all[..s], &[CSB]].concat();
             let answer = stopped.call(&samples, &mut [0; RECORD * 13]);
             assert_eq!(answer.number, 0);
-            let (active, buffer) = book(&chip, &order, s);
-            assert_eq!((&stopped.active, &stopped.buffer), (&active, &buffer), "{order:?} at {s}");
+            assert_eq!(kept(&stopped), book(&chip, &order, s), "{order:?} at {s}");
             assert_at_rest_or_stalled(&stopped.session, &order, s);
         }
     }
@@ -128,8 +128,7 @@ fn a_stopped_run_through_0x0005() {
         for s in [all.len(), 33 + 16 * before as usize, 49 + 16 * before as usize] {
             let mut stopped = chip.clone();
             stopped.read(&[&all[..s.min(all.len())], &[CSB]].concat());
-            let (active, buffer) = book(&chip, &order, s);
-            assert_eq!((&stopped.active, &stopped.buffer), (&active, &buffer), "{order:?} at {s}");
+            assert_eq!(kept(&stopped), book(&chip, &order, s), "{order:?} at {s}");
         }
         transfers += usize::from(data[before as usize] & 1 == 1);
     }

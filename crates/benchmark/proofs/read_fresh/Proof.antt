@@ -17,8 +17,7 @@ same-length-2 : tie.Need-same-length-2
 same-length-2 c = search needs
 
 returns : tie.Need-returns
-returns c =
-    refused _ _ _ _ _ _ _ _ (c .before .before .before .before .before .before .before .open-on .ensures) (c .before .if1 .taken)
+returns c = refused _ _ _ _ _ _ _ _ _ (c .before .before .before .before .before .before .before .open-on .ensures) (c .before .if1 .taken)
 
 read-on-requires : tie.Need-read-on-requires
 read-on-requires c κs = search needs
@@ -35,11 +34,11 @@ same-length-4 c = search needs
 same-length-5 : tie.Need-same-length-5
 same-length-5 c = search needs
 
+same-length-6 : tie.Need-same-length-6
+same-length-6 c = search needs
+
 returns-2 : tie.Need-returns-2
-returns-2 c =
-    let r = c .before .before .before .before .before .before .before in
-    let t = r .before .before .before .before in
-    read-on _ _ _ _ _ _ _ _ (t .before .before .before .before .before .before .open-on .ensures) (t .if1 .left) _ _ _ _ (r .read-on .ensures)
+returns-2 c = read-on _ _ _ _ _ _ _ _ _ (c .before .before .before .before .before .before .before .before .before .before .before .before .before .before .before .before .before .before .before .before .open-on .ensures) (c .before .before .before .before .before .before .before .before .before .before .before .before .before .before .if1 .left) _ _ _ _ (c .before .before .before .before .before .before .before .before .before .read-on .ensures)
 
 pub read-fresh-spec : {M : Type 1} → statement M
 read-fresh-spec =
@@ -55,4 +54,5 @@ read-fresh-spec =
     same-length-3
     same-length-4
     same-length-5
+    same-length-6
     returns-2)

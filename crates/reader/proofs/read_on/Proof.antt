@@ -11,19 +11,22 @@ map-number-requires : tie.Need-map-number-requires
 map-number-requires c κs = search needs
 
 read-tested-requires : tie.Need-read-tested-requires
-read-tested-requires c κs = sym (c .before .before .before .before .map-number .ensures) ∙ c .before .before .before .if1 .taken
+read-tested-requires c κs = sym (c .before .before .before .before .before .map-number .ensures) ∙ c .before .before .before .before .if1 .taken
 
 same-length : tie.Need-same-length
-same-length c = c .before .before .before .before .before .before .read-tested .kept .1 .1 .1 .0
+same-length c = search needs
 
 same-length-2 : tie.Need-same-length-2
-same-length-2 c = c .before .before .before .before .before .before .read-tested .kept .1 .1 .1 .1 .0
+same-length-2 c = search needs
 
 same-length-3 : tie.Need-same-length-3
-same-length-3 c = c .before .before .before .before .before .before .read-tested .kept .1 .1 .1 .1 .1 .1 .0
+same-length-3 c = search needs
+
+same-length-4 : tie.Need-same-length-4
+same-length-4 c = search needs
 
 returns : tie.Need-returns
-returns c = c .before .before .before .before .before .before .read-tested .ensures
+returns c = c .before .before .before .before .before .before .before .before .read-tested .ensures
 
 sound-requires : tie.Need-sound-requires
 sound-requires c κs = search needs
@@ -46,6 +49,7 @@ read-on-spec =
     same-length
     same-length-2
     same-length-3
+    same-length-4
     returns
     sound-requires
     returns-2

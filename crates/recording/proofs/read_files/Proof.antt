@@ -1,5 +1,5 @@
--- `read_files` meets its contract: the map and the banks that it lends are within their buffers.
-use mathlib.Core.Path.{sym}
+-- `read_files` meets its contract: the map, the banks and the words that it lends are within their buffers.
+use mathlib.Core.Path.{sym, _∙_}
 use native.Mathlib.Omega.{arith}
 use lib.Seq.{length-take-le}
 use Rattle.recording.proofs.Laws.{within-bytes}
@@ -26,14 +26,10 @@ returns : tie.Need-returns
 returns c = rw (c .unread .ensures) tt
 
 array-share-prefix-map : tie.Need-array-share-prefix-map
-array-share-prefix-map c =
-    let m = c .before .before .before .before .read-map in
-    omega (arith, within-bytes (c .before .length .given .1) (m .ensures), m .kept .1 .1 .0)
+array-share-prefix-map c = omega (arith, within-bytes (c .before .length .given .1) (c .before .before .before .before .read-map .ensures), c .before .before .before .before .read-map .kept .1 .1 .0)
 
 slice-aggregate-given : tie.Need-slice-aggregate-given
-slice-aggregate-given c =
-    let m = c .before .before .before .before .before .read-map in
-    sym (length-take-le _ _ (omega (arith, within-bytes (c .before .before .length .given .1) (m .ensures), m .kept .1 .1 .0)))
+slice-aggregate-given c = sym (length-take-le _ _ (omega (arith, within-bytes (c .before .before .length .given .1) (c .before .before .before .before .before .read-map .ensures), c .before .before .before .before .before .read-map .kept .1 .1 .0)))
 
 bank-size-requires : tie.Need-bank-size-requires
 bank-size-requires c κs = tt
@@ -50,8 +46,17 @@ array-borrow-prefix-buffer c = search needs
 slice-aggregate-read-opened-2 : tie.Need-slice-aggregate-read-opened-2
 slice-aggregate-read-opened-2 c = sym (length-take-le _ _ (omega (arith, c .before .before .bank-size .ensures)))
 
+word-count-requires : tie.Need-word-count-requires
+word-count-requires c κs = omega (arith, c .before .before .bank-size .ensures)
+
+array-borrow-prefix-words : tie.Need-array-borrow-prefix-words
+array-borrow-prefix-words c = omega (arith, c .before .before .before .bank-size .ensures, c .word-count .ensures)
+
+slice-aggregate-read-opened-3 : tie.Need-slice-aggregate-read-opened-3
+slice-aggregate-read-opened-3 c = sym (length-take-le _ _ (omega (arith, c .before .before .before .before .bank-size .ensures, c .before .word-count .ensures)))
+
 read-opened-requires : tie.Need-read-opened-requires
-read-opened-requires c κs = tt
+read-opened-requires c κs = length-take-le _ _ (omega (arith, c .before .before .before .before .bank-size .ensures, c .before .word-count .ensures)) ∙ (rw (c .before .before .before .before .bank-size .ensures) at (c .before .word-count .ensures))
 
 returns-2 : tie.Need-returns-2
 returns-2 c = search needs
@@ -73,5 +78,8 @@ read-files-spec =
     slice-aggregate-read-opened
     array-borrow-prefix-buffer
     slice-aggregate-read-opened-2
+    word-count-requires
+    array-borrow-prefix-words
+    slice-aggregate-read-opened-3
     read-opened-requires
     returns-2)

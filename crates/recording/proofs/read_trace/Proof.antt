@@ -5,16 +5,16 @@ use Prim.Native.Nat.{_-_}
 use native.Mathlib.Omega.{arith}
 use lib.Seq.{length-take-le}
 use borrow.Author.Needs.{needs}
-use Rattle.recording.proofs.Laws.{Reading, within-bytes, few-taken, records-within, piece-told, counts-nothing, samples-countable, fewer-left, countable, counts-more}
+use Rattle.recording.proofs.Laws.{Reading, within-bytes, few-taken, records-within, piece-told, words-still, counts-nothing, samples-countable, fewer-left, countable, counts-more}
 use Rattle.recording.proofs.read_trace.Statement.{statement}
 use Rattle.recording.proofs.read_trace.Tie as tie
 
 abbrev Inv-loop : tie.InvT-loop
-Inv-loop chip map session₀ active₀ buffer₀ from to samples₀ records₀ tally₀ session active buffer samples records tally =
-    Reading active₀ buffer₀ active buffer samples records tally
+Inv-loop chip map session₀ active₀ buffer₀ words₀ from to samples₀ records₀ tally₀ session active buffer words samples records tally =
+    Reading active₀ buffer₀ words₀ active buffer words samples records tally
 
 abbrev μ-loop : tie.MeasureT-loop
-μ-loop chip map session₀ active₀ buffer₀ from to samples₀ records₀ tally₀ session active buffer samples records tally =
+μ-loop chip map session₀ active₀ buffer₀ words₀ from to samples₀ records₀ tally₀ session active buffer words samples records tally =
     0xFFFF_FFFF_FFFF_FFFF - tally .samples
 
 nothing-read-requires : tie.Need-nothing-read-requires Inv-loop μ-loop
@@ -22,7 +22,14 @@ nothing-read-requires c κs = tt
 
 loop-holds : tie.Need-loop-holds Inv-loop μ-loop
 loop-holds c =
-    record { same-active = refl; same-buffer = refl; samples-room = search needs; records-room = search needs; counts = counts-nothing (c .nothing-read .ensures) }
+    record {
+      same-active = refl;
+      same-buffer = refl;
+      same-words = refl;
+      samples-room = search needs;
+      records-room = search needs;
+      counts = counts-nothing (c .nothing-read .ensures);
+    }
 
 sub-if1 : tie.Need-sub-if1 Inv-loop μ-loop
 sub-if1 c = search needs
@@ -48,6 +55,9 @@ same-length c = c .before .before .before .before .before .before .before .befor
 same-length-2 : tie.Need-same-length-2 Inv-loop μ-loop
 same-length-2 c = c .before .before .before .before .before .before .before .before .loop .inv .same-buffer
 
+same-length-3 : tie.Need-same-length-3 Inv-loop μ-loop
+same-length-3 c = c .before .before .before .before .before .before .before .before .loop .inv .same-words
+
 returns : tie.Need-returns Inv-loop μ-loop
 returns c = rw (c .ended .ensures) tt
 
@@ -62,102 +72,82 @@ slice-aggregate-piece c =
     sym (length-take-le _ _ (omega (arith, within-bytes (c .before .before .got .given .1) (f .ensures), f .kept .1 .0)))
 
 slice-aggregate-read-tested : tie.Need-slice-aggregate-read-tested Inv-loop μ-loop
-slice-aggregate-read-tested c = sym (c .before .before .before .before .before .before .before .before .before .before .before .before .loop .inv .records-room)
+slice-aggregate-read-tested c = sym (c .before .before .before .before .before .before .before .before .before .before .before .before .before .loop .inv .records-room)
 
 read-tested-requires : tie.Need-read-tested-requires Inv-loop μ-loop
-read-tested-requires c κs = c .before .before .before .before .before .before .before .before .before .before .before .before .before .before .before .before .before .pre .0
+read-tested-requires c κs = c .before .before .before .before .before .before .before .before .before .before .before .before .before .before .before .before .before .before .before .pre .0
 
 refuse-requires : tie.Need-refuse-requires Inv-loop μ-loop
 refuse-requires c κs =
-    let r = c .before .before .before .before .before .before in
-    let h = r .before .before .before .before .before .before .before .before .before .before .before .before .before .loop .inv in
-    let f = r .before .before .before .before .before .before .before .before .before .fill in
-    let few = within-bytes (r .before .before .before .before .before .before .got .given .1) (f .ensures) in
-    let told = piece-told _ _ _ _ _ (r .read-tested .ensures) (h .records-room) (r .before .before .before .before .before .before .before .before .before .before .before .before .before .before .before .before .before .before .pre .1) (few-taken _ (omega (arith, f .kept .1 .0, h .samples-room)) few) in
+    let r = c .before .before .before .before .before .before .before .before .read-tested in
+    let h = c .before .before .before .before .before .before .before .before .before .before .before .before .before .before .before .before .before .before .before .before .before .before .loop .inv in
+    let f = c .before .before .before .before .before .before .before .before .before .before .before .before .before .before .before .before .before .before .fill in
+    let few = within-bytes (c .before .before .before .before .before .before .before .before .before .before .before .before .before .before .before .got .given .1) (f .ensures) in
+    let words = words-still _ (c .before .before .before .before .before .before .before .before .before .before .before .before .before .before .before .before .before .before .before .before .before .before .loop .words) (c .before .before .before .before .before .before .before .before .before .before .before .before .before .before .before .before .before .before .before .before .before .before .before .before .before .before .before .before .args .words .now) (h .same-words) (c .before .before .before .before .before .before .before .before .before .before .before .before .before .before .before .before .before .before .before .before .before .before .before .before .before .before .before .before .pre .2) in
+    let told = piece-told _ _ _ _ _ (r .ensures) (h .records-room) (c .before .before .before .before .before .before .before .before .before .before .before .before .before .before .before .before .before .before .before .before .before .before .before .before .before .before .before .before .pre .1) words (few-taken _ (omega (arith, f .kept .1 .0, h .samples-room)) few) in
     (omega (arith, c .if2 .taken), told)
 
 up-to-bad-requires : tie.Need-up-to-bad-requires Inv-loop μ-loop
 up-to-bad-requires c κs =
-    let r = c .before .before .before .before .before .before .before in
-    let h = r .before .before .before .before .before .before .before .before .before .before .before .before .before .loop .inv in
-    let f = r .before .before .before .before .before .before .before .before .before .fill in
-    let few = within-bytes (r .before .before .before .before .before .before .got .given .1) (f .ensures) in
-    samples-countable (r .before .before .before .before .before .before .before .before .before .before .before .before .before .loop .tally) _ (omega (arith, few, f .kept .1 .0, h .samples-room)) (r .before .before .before .before .before .before .before .before .before .before .before .if1 .taken) few
+    let h = c .before .before .before .before .before .before .before .before .before .before .before .before .before .before .before .before .before .before .before .before .before .before .before .loop .inv in
+    let f = c .before .before .before .before .before .before .before .before .before .before .before .before .before .before .before .before .before .before .before .fill in
+    let few = within-bytes (c .before .before .before .before .before .before .before .before .before .before .before .before .before .before .before .before .got .given .1) (f .ensures) in
+    samples-countable (c .before .before .before .before .before .before .before .before .before .before .before .before .before .before .before .before .before .before .before .before .before .before .before .loop .tally) _ (omega (arith, few, f .kept .1 .0, h .samples-room)) (c .before .before .before .before .before .before .before .before .before .before .before .before .before .before .before .before .before .before .before .before .before .if1 .taken) few
 
 ended-requires-2 : tie.Need-ended-requires-2 Inv-loop μ-loop
 ended-requires-2 c κs = tt
 
-same-length-3 : tie.Need-same-length-3 Inv-loop μ-loop
-same-length-3 c =
-    let r = c .before .before .before .before .before .before .before .before .before in
-    let h = r .before .before .before .before .before .before .before .before .before .before .before .before .before .loop .inv in
-    r .read-tested .kept .1 .1 .1 .0 ∙ h .same-active
-
 same-length-4 : tie.Need-same-length-4 Inv-loop μ-loop
-same-length-4 c =
-    let r = c .before .before .before .before .before .before .before .before .before in
-    let h = r .before .before .before .before .before .before .before .before .before .before .before .before .before .loop .inv in
-    r .read-tested .kept .1 .1 .1 .1 .0 ∙ h .same-buffer
+same-length-4 c = c .before .before .before .before .before .before .before .before .before .before .before .read-tested .kept .1 .1 .1 .0 ∙ c .before .before .before .before .before .before .before .before .before .before .before .before .before .before .before .before .before .before .before .before .before .before .before .before .before .loop .inv .same-active
+
+same-length-5 : tie.Need-same-length-5 Inv-loop μ-loop
+same-length-5 c = c .before .before .before .before .before .before .before .before .before .before .before .read-tested .kept .1 .1 .1 .1 .0 ∙ c .before .before .before .before .before .before .before .before .before .before .before .before .before .before .before .before .before .before .before .before .before .before .before .before .before .loop .inv .same-buffer
+
+same-length-6 : tie.Need-same-length-6 Inv-loop μ-loop
+same-length-6 c = c .before .before .before .before .before .before .before .before .before .before .before .read-tested .kept .1 .1 .1 .1 .1 .0 ∙ c .before .before .before .before .before .before .before .before .before .before .before .before .before .before .before .before .before .before .before .before .before .before .before .before .before .loop .inv .same-words
 
 returns-2 : tie.Need-returns-2 Inv-loop μ-loop
 returns-2 c = rw (c .ended2 .ensures) (c .before .before .refuse .ensures)
 
 mul-size : tie.Need-mul-size Inv-loop μ-loop
-mul-size c =
-    let r = c .before .before .before .before .before .before .before in
-    let h = r .before .before .before .before .before .before .before .before .before .before .before .before .before .loop .inv in
-    omega (arith, records-within _ _ _ _ _ (r .read-tested .ensures) (h .records-room))
+mul-size c = omega (arith, records-within _ _ _ _ _ (c .before .before .before .before .before .before .before .before .before .read-tested .ensures) (c .before .before .before .before .before .before .before .before .before .before .before .before .before .before .before .before .before .before .before .before .before .before .before .loop .inv .records-room))
 
 slice-aggregate-write-lines : tie.Need-slice-aggregate-write-lines Inv-loop μ-loop
-slice-aggregate-write-lines c =
-    let r = c .before .before .before .before .before .before .before .before in
-    let h = r .before .before .before .before .before .before .before .before .before .before .before .before .before .loop .inv in
-    sym (r .read-tested .kept .1 .1 .1 .1 .1 .1 .0 ∙ h .records-room)
+slice-aggregate-write-lines c = sym (c .before .before .before .before .before .before .before .before .before .before .read-tested .kept .1 .1 .1 .1 .1 .1 .1 .0 ∙ c .before .before .before .before .before .before .before .before .before .before .before .before .before .before .before .before .before .before .before .before .before .before .before .before .loop .inv .records-room)
 
 write-lines-requires : tie.Need-write-lines-requires Inv-loop μ-loop
-write-lines-requires c κs =
-    let r = c .before .before .before .before .before .before .before .before in
-    let h = r .before .before .before .before .before .before .before .before .before .before .before .before .before .loop .inv in
-    omega (arith, records-within _ _ _ _ _ (r .read-tested .ensures) (h .records-room), r .read-tested .kept .1 .1 .1 .1 .1 .1 .0 ∙ h .records-room)
+write-lines-requires c κs = omega (arith, records-within _ _ _ _ _ (c .before .before .before .before .before .before .before .before .before .before .read-tested .ensures) (c .before .before .before .before .before .before .before .before .before .before .before .before .before .before .before .before .before .before .before .before .before .before .before .before .loop .inv .records-room), c .before .before .before .before .before .before .before .before .before .before .read-tested .kept .1 .1 .1 .1 .1 .1 .1 .0 ∙ c .before .before .before .before .before .before .before .before .before .before .before .before .before .before .before .before .before .before .before .before .before .before .before .before .loop .inv .records-room)
 
 ended-requires-3 : tie.Need-ended-requires-3 Inv-loop μ-loop
 ended-requires-3 c κs = tt
 
-same-length-5 : tie.Need-same-length-5 Inv-loop μ-loop
-same-length-5 c =
-    let r = c .before .before .before .before .before .before .before .before .before .before .before in
-    let h = r .before .before .before .before .before .before .before .before .before .before .before .before .before .loop .inv in
-    r .read-tested .kept .1 .1 .1 .0 ∙ h .same-active
+same-length-7 : tie.Need-same-length-7 Inv-loop μ-loop
+same-length-7 c = c .before .before .before .before .before .before .before .before .before .before .before .before .before .read-tested .kept .1 .1 .1 .0 ∙ c .before .before .before .before .before .before .before .before .before .before .before .before .before .before .before .before .before .before .before .before .before .before .before .before .before .before .before .loop .inv .same-active
 
-same-length-6 : tie.Need-same-length-6 Inv-loop μ-loop
-same-length-6 c =
-    let r = c .before .before .before .before .before .before .before .before .before .before .before in
-    let h = r .before .before .before .before .before .before .before .before .before .before .before .before .before .loop .inv in
-    r .read-tested .kept .1 .1 .1 .1 .0 ∙ h .same-buffer
+same-length-8 : tie.Need-same-length-8 Inv-loop μ-loop
+same-length-8 c = c .before .before .before .before .before .before .before .before .before .before .before .before .before .read-tested .kept .1 .1 .1 .1 .0 ∙ c .before .before .before .before .before .before .before .before .before .before .before .before .before .before .before .before .before .before .before .before .before .before .before .before .before .before .before .loop .inv .same-buffer
+
+same-length-9 : tie.Need-same-length-9 Inv-loop μ-loop
+same-length-9 c = c .before .before .before .before .before .before .before .before .before .before .before .before .before .read-tested .kept .1 .1 .1 .1 .1 .0 ∙ c .before .before .before .before .before .before .before .before .before .before .before .before .before .before .before .before .before .before .before .before .before .before .before .before .before .before .before .loop .inv .same-words
 
 returns-3 : tie.Need-returns-3 Inv-loop μ-loop
 returns-3 c = rw (c .ended3 .ensures) tt
 
 array-share-prefix-records : tie.Need-array-share-prefix-records Inv-loop μ-loop
-array-share-prefix-records c =
-    let r = c .before .before .before .before .before .before .before .before .before .before in
-    let h = r .before .before .before .before .before .before .before .before .before .before .before .before .before .loop .inv in
-    omega (arith, records-within _ _ _ _ _ (r .read-tested .ensures) (h .records-room), r .read-tested .kept .1 .1 .1 .1 .1 .1 .0 ∙ h .records-room)
+array-share-prefix-records c = omega (arith, records-within _ _ _ _ _ (c .before .before .before .before .before .before .before .before .before .before .before .before .read-tested .ensures) (c .before .before .before .before .before .before .before .before .before .before .before .before .before .before .before .before .before .before .before .before .before .before .before .before .before .before .loop .inv .records-room), c .before .before .before .before .before .before .before .before .before .before .before .before .read-tested .kept .1 .1 .1 .1 .1 .1 .1 .0 ∙ c .before .before .before .before .before .before .before .before .before .before .before .before .before .before .before .before .before .before .before .before .before .before .before .before .before .before .loop .inv .records-room)
 
 slice-aggregate-counted : tie.Need-slice-aggregate-counted Inv-loop μ-loop
 slice-aggregate-counted c =
-    let r = c .before .before .before .before .before .before .before .before .before .before .before in
-    let h = r .before .before .before .before .before .before .before .before .before .before .before .before .before .loop .inv in
-    sym (length-take-le _ _ (omega (arith, records-within _ _ _ _ _ (r .read-tested .ensures) (h .records-room), r .read-tested .kept .1 .1 .1 .1 .1 .1 .0 ∙ h .records-room)))
+    let room = c .before .before .before .before .before .before .before .before .before .before .before .before .before .read-tested .kept .1 .1 .1 .1 .1 .1 .1 .0 ∙ c .before .before .before .before .before .before .before .before .before .before .before .before .before .before .before .before .before .before .before .before .before .before .before .before .before .before .before .loop .inv .records-room in
+    sym (length-take-le _ _ (omega (arith, records-within _ _ _ _ _ (c .before .before .before .before .before .before .before .before .before .before .before .before .before .read-tested .ensures) (c .before .before .before .before .before .before .before .before .before .before .before .before .before .before .before .before .before .before .before .before .before .before .before .before .before .before .before .loop .inv .records-room), room)))
 
 counted-requires : tie.Need-counted-requires Inv-loop μ-loop
 counted-requires c κs =
-    let r = c .before .before .before .before .before .before .before .before .before .before .before in
-    let h = r .before .before .before .before .before .before .before .before .before .before .before .before .before .loop .inv in
-    let f = r .before .before .before .before .before .before .before .before .before .fill in
-    let few = within-bytes (r .before .before .before .before .before .before .got .given .1) (f .ensures) in
-    let lines = records-within _ _ _ _ _ (r .read-tested .ensures) (h .records-room) in
-    countable _ _ (omega (arith, few, f .kept .1 .0, h .samples-room)) (h .counts) _ lines (omega (arith, lines, r .read-tested .kept .1 .1 .1 .1 .1 .1 .0 ∙ h .records-room)) (r .before .before .before .before .before .before .before .before .before .before .before .if1 .taken) few
+    let h = c .before .before .before .before .before .before .before .before .before .before .before .before .before .before .before .before .before .before .before .before .before .before .before .before .before .before .before .loop .inv in
+    let f = c .before .before .before .before .before .before .before .before .before .before .before .before .before .before .before .before .before .before .before .before .before .before .before .fill in
+    let few = within-bytes (c .before .before .before .before .before .before .before .before .before .before .before .before .before .before .before .before .before .before .before .before .got .given .1) (f .ensures) in
+    let lines = records-within _ _ _ _ _ (c .before .before .before .before .before .before .before .before .before .before .before .before .before .read-tested .ensures) (h .records-room) in
+    countable _ _ (omega (arith, few, f .kept .1 .0, h .samples-room)) (h .counts) _ lines (omega (arith, lines, c .before .before .before .before .before .before .before .before .before .before .before .before .before .read-tested .kept .1 .1 .1 .1 .1 .1 .1 .0 ∙ h .records-room)) (c .before .before .before .before .before .before .before .before .before .before .before .before .before .before .before .before .before .before .before .before .before .before .before .before .before .if1 .taken) few
 
 close-requires : tie.Need-close-requires Inv-loop μ-loop
 close-requires c κs = tt
@@ -165,52 +155,53 @@ close-requires c κs = tt
 ended-requires-4 : tie.Need-ended-requires-4 Inv-loop μ-loop
 ended-requires-4 c κs = tt
 
-same-length-7 : tie.Need-same-length-7 Inv-loop μ-loop
-same-length-7 c =
-    let r = c .before .before .before .before .before .before .before .before .before .before .before .before .before .before .before in
-    let h = r .before .before .before .before .before .before .before .before .before .before .before .before .before .loop .inv in
-    r .read-tested .kept .1 .1 .1 .0 ∙ h .same-active
+same-length-10 : tie.Need-same-length-10 Inv-loop μ-loop
+same-length-10 c = c .before .before .before .before .before .before .before .before .before .before .before .before .before .before .before .before .before .read-tested .kept .1 .1 .1 .0 ∙ c .before .before .before .before .before .before .before .before .before .before .before .before .before .before .before .before .before .before .before .before .before .before .before .before .before .before .before .before .before .before .before .loop .inv .same-active
 
-same-length-8 : tie.Need-same-length-8 Inv-loop μ-loop
-same-length-8 c =
-    let r = c .before .before .before .before .before .before .before .before .before .before .before .before .before .before .before in
-    let h = r .before .before .before .before .before .before .before .before .before .before .before .before .before .loop .inv in
-    r .read-tested .kept .1 .1 .1 .1 .0 ∙ h .same-buffer
+same-length-11 : tie.Need-same-length-11 Inv-loop μ-loop
+same-length-11 c = c .before .before .before .before .before .before .before .before .before .before .before .before .before .before .before .before .before .read-tested .kept .1 .1 .1 .1 .0 ∙ c .before .before .before .before .before .before .before .before .before .before .before .before .before .before .before .before .before .before .before .before .before .before .before .before .before .before .before .before .before .before .before .loop .inv .same-buffer
+
+same-length-12 : tie.Need-same-length-12 Inv-loop μ-loop
+same-length-12 c = c .before .before .before .before .before .before .before .before .before .before .before .before .before .before .before .before .before .read-tested .kept .1 .1 .1 .1 .1 .0 ∙ c .before .before .before .before .before .before .before .before .before .before .before .before .before .before .before .before .before .before .before .before .before .before .before .before .before .before .before .before .before .before .before .loop .inv .same-words
 
 returns-4 : tie.Need-returns-4 Inv-loop μ-loop
 returns-4 c = rw (c .ended4 .ensures) (c .before .close .ensures)
 
 loop-less : tie.Need-loop-less Inv-loop μ-loop
 loop-less c =
-    let r = c .before .before .before .before .before .before .before .before .before .before .before .before .before .before in
-    let h = r .before .before .before .before .before .before .before .before .before .before .before .before .before .loop .inv in
-    let f = r .before .before .before .before .before .before .before .before .before .fill in
-    let few = within-bytes (r .before .before .before .before .before .before .got .given .1) (f .ensures) in
-    fewer-left _ _ (omega (arith, few, f .kept .1 .0, h .samples-room)) (r .before .before .before .before .before .before .before .before .before .before .before .if1 .taken) _ (c .before .before .counted .ensures) (c .before .if4 .left)
+    let h = c .before .before .before .before .before .before .before .before .before .before .before .before .before .before .before .before .before .before .before .before .before .before .before .before .before .before .before .before .before .before .loop .inv in
+    let f = c .before .before .before .before .before .before .before .before .before .before .before .before .before .before .before .before .before .before .before .before .before .before .before .before .before .before .fill in
+    let few = within-bytes (c .before .before .before .before .before .before .before .before .before .before .before .before .before .before .before .before .before .before .before .before .before .before .before .got .given .1) (f .ensures) in
+    fewer-left _ _ (omega (arith, few, f .kept .1 .0, h .samples-room)) (c .before .before .before .before .before .before .before .before .before .before .before .before .before .before .before .before .before .before .before .before .before .before .before .before .before .before .before .before .if1 .taken) _ (c .before .before .counted .ensures) (c .before .if4 .left)
 
 loop-again : tie.Need-loop-again Inv-loop μ-loop
 loop-again c =
-    let r = c .before .before .before .before .before .before .before .before .before .before .before .before .before .before in
-    let h = r .before .before .before .before .before .before .before .before .before .before .before .before .before .loop .inv in
-    let f = r .before .before .before .before .before .before .before .before .before .fill in
-    let few = within-bytes (r .before .before .before .before .before .before .got .given .1) (f .ensures) in
-    let lines = records-within _ _ _ _ _ (r .read-tested .ensures) (h .records-room) in
+    let r = c .before .before .before .before .before .before .before .before .before .before .before .before .before .before .before .before .read-tested in
+    let h = c .before .before .before .before .before .before .before .before .before .before .before .before .before .before .before .before .before .before .before .before .before .before .before .before .before .before .before .before .before .before .loop .inv in
+    let f = c .before .before .before .before .before .before .before .before .before .before .before .before .before .before .before .before .before .before .before .before .before .before .before .before .before .before .fill in
+    let few = within-bytes (c .before .before .before .before .before .before .before .before .before .before .before .before .before .before .before .before .before .before .before .before .before .before .before .got .given .1) (f .ensures) in
+    let lines = records-within _ _ _ _ _ (r .ensures) (h .records-room) in
+    let room = r .kept .1 .1 .1 .1 .1 .1 .1 .0 ∙ h .records-room in
     record {
-      same-active = r .read-tested .kept .1 .1 .1 .0 ∙ h .same-active;
-      same-buffer = r .read-tested .kept .1 .1 .1 .1 .0 ∙ h .same-buffer;
+      same-active = r .kept .1 .1 .1 .0 ∙ h .same-active;
+      same-buffer = r .kept .1 .1 .1 .1 .0 ∙ h .same-buffer;
+      same-words = r .kept .1 .1 .1 .1 .1 .0 ∙ h .same-words;
       samples-room = f .kept .1 .0 ∙ h .samples-room;
-      records-room = r .read-tested .kept .1 .1 .1 .1 .1 .1 .0 ∙ h .records-room;
-      counts = counts-more _ _ (omega (arith, few, f .kept .1 .0, h .samples-room)) (h .counts) _ lines (omega (arith, lines, r .read-tested .kept .1 .1 .1 .1 .1 .1 .0 ∙ h .records-room)) (c .before .before .counted .ensures) (c .before .if4 .left);
+      records-room = room;
+      counts = counts-more _ _ (omega (arith, few, f .kept .1 .0, h .samples-room)) (h .counts) _ lines (omega (arith, lines, room)) (c .before .before .counted .ensures) (c .before .if4 .left);
     }
 
 ended-requires-5 : tie.Need-ended-requires-5 Inv-loop μ-loop
 ended-requires-5 c κs = tt
 
-same-length-9 : tie.Need-same-length-9 Inv-loop μ-loop
-same-length-9 c = c .before .before .before .loop .inv .same-active
+same-length-13 : tie.Need-same-length-13 Inv-loop μ-loop
+same-length-13 c = c .before .before .before .loop .inv .same-active
 
-same-length-10 : tie.Need-same-length-10 Inv-loop μ-loop
-same-length-10 c = c .before .before .before .loop .inv .same-buffer
+same-length-14 : tie.Need-same-length-14 Inv-loop μ-loop
+same-length-14 c = c .before .before .before .loop .inv .same-buffer
+
+same-length-15 : tie.Need-same-length-15 Inv-loop μ-loop
+same-length-15 c = c .before .before .before .loop .inv .same-words
 
 returns-5 : tie.Need-returns-5 Inv-loop μ-loop
 returns-5 c = rw (c .ended5 .ensures) tt
@@ -231,6 +222,7 @@ read-trace-spec =
     ended-requires
     same-length
     same-length-2
+    same-length-3
     returns
     array-share-prefix-samples
     slice-aggregate-piece
@@ -239,27 +231,31 @@ read-trace-spec =
     refuse-requires
     up-to-bad-requires
     ended-requires-2
-    same-length-3
     same-length-4
+    same-length-5
+    same-length-6
     returns-2
     mul-size
     slice-aggregate-write-lines
     write-lines-requires
     ended-requires-3
-    same-length-5
-    same-length-6
+    same-length-7
+    same-length-8
+    same-length-9
     returns-3
     array-share-prefix-records
     slice-aggregate-counted
     counted-requires
     close-requires
     ended-requires-4
-    same-length-7
-    same-length-8
+    same-length-10
+    same-length-11
+    same-length-12
     returns-4
     loop-less
     loop-again
     ended-requires-5
-    same-length-9
-    same-length-10
+    same-length-13
+    same-length-14
+    same-length-15
     returns-5)

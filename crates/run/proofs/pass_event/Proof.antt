@@ -7,7 +7,7 @@ use Rattle.run.proofs.pass_event.Statement.{statement}
 use Rattle.run.proofs.pass_event.Tie as tie
 
 take-event-requires : tie.Need-take-event-requires
-take-event-requires c κs = c .before .before .before .before .before .before .before .before .pre .taking (c .before .before .before .if1 .taken)
+take-event-requires c κs = c .before .before .before .before .before .before .before .before .before .before .pre .taking (c .before .before .before .before .if1 .taken)
 
 same-length : tie.Need-same-length
 same-length c = search needs
@@ -18,19 +18,22 @@ same-length-2 c = search needs
 same-length-3 : tie.Need-same-length-3
 same-length-3 c = search needs
 
+same-length-4 : tie.Need-same-length-4
+same-length-4 c = search needs
+
 returns : tie.Need-returns
 returns c =
-    let t = c .before .before .before .before .before .before .take-event .ensures in
+    let t = c .before .before .before .before .before .before .before .before .take-event .ensures in
     record { next-place = place-after t; taken = λ p. t }
 
 records-in-requires : tie.Need-records-in-requires
 records-in-requires c κs = search needs
 
-mul-t19 : tie.Need-mul-t19
-mul-t19 c = search needs
+mul-t22 : tie.Need-mul-t22
+mul-t22 c = search needs
 
-add-t20 : tie.Need-add-t20
-add-t20 c = search needs
+add-t23 : tie.Need-add-t23
+add-t23 c = search needs
 
 returns-2 : tie.Need-returns-2
 returns-2 c = record { next-place = rw (c .records-in .ensures); taken = λ p. absurd (false≢true (sym (c .before .if1 .left) ∙ p)) }
@@ -43,8 +46,9 @@ pass-event-spec =
     same-length
     same-length-2
     same-length-3
+    same-length-4
     returns
     records-in-requires
-    mul-t19
-    add-t20
+    mul-t22
+    add-t23
     returns-2)

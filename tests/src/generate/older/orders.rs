@@ -4,6 +4,7 @@ use super::any_older;
 use super::maps::good_older_map;
 use crate::chip::Chip;
 use crate::generate::random::Random;
+use crate::generate::words::any_words;
 use crate::second::older::Older;
 use crate::second::sender::Order;
 use crate::second::session::{Session, CSB, SCLK};
@@ -17,7 +18,7 @@ const OTHERS: [Settings; 4] = [
     Settings::BUFFER_READBACK,
 ];
 
-/// A chip at rest, its banks at will, its bit order that of the order.
+/// A chip at rest, its banks and words at will, its bit order that of the order.
 pub fn older_at_rest(random: &mut Random, settings: u64) -> Chip {
     let older = any_older(random);
     let older = Older { top: older.top.min(0x0060), ..older };
@@ -25,6 +26,7 @@ pub fn older_at_rest(random: &mut Random, settings: u64) -> Chip {
     let count = chip.active.len();
     chip.active = random.bytes(count);
     chip.buffer = random.bytes(count);
+    chip.words = any_words(random, count);
     let ordered = if settings == 1 { Settings::LSB_FIRST } else { Settings::NONE };
     let at_will = OTHERS.into_iter().filter(|_| random.coin());
     let settings = at_will.fold(ordered, Settings::with);

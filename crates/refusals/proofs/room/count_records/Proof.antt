@@ -16,9 +16,12 @@ slice-aggregate-run-samples-3 c = search needs
 slice-aggregate-run-samples-4 : tie.Need-slice-aggregate-run-samples-4
 slice-aggregate-run-samples-4 c = search needs
 
+slice-aggregate-run-samples-5 : tie.Need-slice-aggregate-run-samples-5
+slice-aggregate-run-samples-5 c = search needs
+
 run-samples-requires : tie.Need-run-samples-requires
 run-samples-requires c κs =
-    let p = c .before .before .before .before .before .pre in
+    let p = c .before .before .before .before .before .before .pre in
     ready-to-count _ _ _ _ _ (p .0) (p .1)
 
 returns : tie.Need-returns
@@ -32,5 +35,6 @@ count-records-spec =
     slice-aggregate-run-samples-2
     slice-aggregate-run-samples-3
     slice-aggregate-run-samples-4
+    slice-aggregate-run-samples-5
     run-samples-requires
     returns)

@@ -1,0 +1,5 @@
+mod Word
+mod Row
+mod Words
+mod Answer
+pub mod Meaning

@@ -1,0 +1,3 @@
+pub mod Touched
+pub mod Calls
+pub mod Meaning
