@@ -4,18 +4,12 @@ from __future__ import annotations
 import functools
 import operator
 from dataclasses import dataclass
-from typing import Dict, List, Optional, Set
+from typing import Dict, List, Optional
 
 from .reading import ACTIVE, IGNORED, READ, RESET, SETTING, TRANSFER, WAITING, WRITE, Event, Reading
 from .unit import BUFFERED, PLAIN, READ_ONLY, Register
 
 SLOW_ADDRESS, SLOW_BIT = 0x0001, 0x10
-
-
-def registers_written(reading: Reading) -> Set[int]:
-    """The registers written since the start: those recorded with effect 1 or 2. The library has no touched words yet; they are this set,
-    and can take its place here."""
-    return set(reading.writes)
 
 
 @dataclass
@@ -49,20 +43,26 @@ def moved_bits(reading: Reading) -> Dict[int, int]:
     return {address: functools.reduce(operator.or_, (event.record.moved for event in events)) for address, events in reading.writes.items()}
 
 
+def _not_buffered(reading: Reading, found: Dict[int, int]) -> Dict[int, int]:
+    return {address: at for address, at in found.items() if reading.unit.register(address).kind != BUFFERED}
+
+
 def confirmed(reading: Reading) -> Dict[int, int]:
-    """For each register, the last read that agreed, with buffer readback off, after the value in force could last have changed. A write that
-    waits counts as a change: a map's flag may put it in force without a record."""
+    """For each register, the last read that agreed, with buffer readback off, after the value in force could last have changed: by a write, a
+    transfer, a soft reset, or the end of a frame that moves the buffered registers."""
     found: Dict[int, int] = {}
-    for event in reading.events():
-        record = event.record
-        if event.is_write(RESET):
-            found.clear()
-        elif event.is_write(TRANSFER):
-            found = {address: at for address, at in found.items() if reading.unit.register(address).kind != BUFFERED}
-        elif event.is_write(ACTIVE, WAITING):
-            found.pop(record.address, None)
-        elif record.kind == READ and not event.disagrees() and not event.readback:
-            found[record.address] = event.at
+    for frame in reading.frames:
+        for event in frame.events:
+            if event.is_write(RESET):
+                found.clear()
+            elif event.is_write(TRANSFER):
+                found = _not_buffered(reading, found)
+            elif event.is_write(ACTIVE, WAITING):
+                found.pop(event.record.address, None)
+            elif event.record.kind == READ and not event.disagrees() and not event.readback:
+                found[event.record.address] = event.at
+        if frame.end is not None and frame.last.armed:
+            found = _not_buffered(reading, found)
     return found
 
 
@@ -74,7 +74,7 @@ def written_after(reading: Reading, address: int, at: int) -> Optional[Event]:
 
 def rows(reading: Reading) -> List[Row]:
     """The registers to show: those written, wanted or broken off."""
-    written, moved, reads = registers_written(reading), moved_bits(reading), confirmed(reading)
+    written, moved, reads = reading.touched, moved_bits(reading), confirmed(reading)
     broken = {event.record.address for event in reading.events() if event.is_cut() and event.in_data()}
     waits = set(waiting(reading))
     shown = written | waits | set(reading.unit.wanted()) | broken

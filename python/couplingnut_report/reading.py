@@ -8,7 +8,7 @@ from __future__ import annotations
 import functools
 import re
 from dataclasses import dataclass, field
-from typing import Dict, Iterator, List, Optional, Tuple, Union
+from typing import Dict, FrozenSet, Iterator, List, Optional, Tuple, Union
 
 import couplingnut as cn
 
@@ -76,6 +76,7 @@ class Reading:
     active: bytes
     buffer: bytes
     session: cn.Session
+    touched: FrozenSet[int]
 
     def events(self) -> Iterator[Event]:
         """The events in order of time."""
@@ -126,13 +127,14 @@ class _Reader:
         self.map, self.samples, self.at = unit.map, samples, 0
         self.active, self.buffer = cn.banks(unit.map)
         self.session = cn.open(unit.map, self.active, self.buffer)
+        self.touched = cn.touched_words(unit.map)
 
     def up_to(self, end: int) -> Iterator[Event]:
         """Reads on to this sample, and gives the events on the way."""
         while self.at < end:
             piece = self.samples[self.at:min(end, self.at + PIECE)]
             before, active = self.session, bytes(self.active)
-            self.session, record, taken = cn.next_record(self.map, self.session, self.active, self.buffer, piece)
+            self.session, record, taken = cn.next_record(self.map, self.session, self.active, self.buffer, piece, touched=self.touched)
             self.at += taken
             if record is not None:
                 moves = record.kind == WRITE and record.byte5 == TRANSFER
@@ -162,4 +164,4 @@ def read(unit: Unit, capture: Capture) -> Union[Reading, Refusal]:
         frames = _read_frames(reader)
     except cn.Refused as refused:
         return Refusal(unit, capture, refused.number, cn.message(refused.number), bad.start() if bad else None)
-    return Reading(unit, capture, frames, bytes(reader.active), bytes(reader.buffer), reader.session)
+    return Reading(unit, capture, frames, bytes(reader.active), bytes(reader.buffer), reader.session, frozenset(cn.touched(reader.touched)))

@@ -65,14 +65,14 @@ def capture(samples, rate=None, file='made.samples'):
     return captures.Capture(file, '0' * 64, bytes(samples), rate, {'csb': 'D0', 'sclk': 'D1', 'sdio': 'D2', 'sdo': 'D3'})
 
 
-def made_unit(table=TABLE, name='CT-1'):
+def made_unit(table=TABLE, name='CT-1', flags=None):
     """The unit of a table."""
-    return unit.unit_of(table.encode(), f'{name}.txt', name)
+    return unit.unit_of(table.encode(), f'{name}.txt', name, flags)
 
 
-def reported(samples, table=TABLE, rate=1_000_000):
+def reported(samples, table=TABLE, rate=1_000_000, flags=None):
     """The report of a recording."""
-    return report.make(made_unit(table), capture(samples, rate), report.Filled())
+    return report.make(made_unit(table, flags=flags), capture(samples, rate), report.Filled())
 
 
 def oversampled(samples, times, jitter=0, seed=1):

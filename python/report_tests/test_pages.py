@@ -152,6 +152,23 @@ class Pages(unittest.TestCase):
         self.assertFalse(confirmed(*GOOD, read(0x0010, 0x2D), write(0x0010, 0x2D)))
         self.assertTrue(confirmed(*GOOD, read(0x0010, 0x2D), write(0x0018, 0x5A)))
 
+    def test_confirmed_at_a_rise(self):
+        """a read before the rise that moves the value confirms nothing; one in a later frame does"""
+        single = write(0x0001, 0x80)
+        written = made.cn.send(made.cn.WRITE, made.cn.SINGLE_INSTRUCTION, 0x0010, 1, b'\x2D')
+        old = bytearray(made.cn.send(made.cn.READ, made.cn.SINGLE_INSTRUCTION, 0x0010, 1))
+        for at, bit in enumerate(f'{0x16:08b}'):
+            old[33 + 2 * at] |= int(bit) << 2
+            old[34 + 2 * at] |= int(bit) << 2
+        both = written[:-2] + bytes(old[1:]) + made.IDLE
+
+        def confirmed(*frames):
+            rows = json.loads(json_page(reported(recording(single, both, *frames), flags=1)))['registers']
+            return [(row['in_force'], row['confirmed_at'] is not None) for row in rows if row['address'] == '0x0010'][0]
+        in_force, before_the_rise = confirmed()
+        self.assertEqual((in_force, before_the_rise), (confirmed(read(0x0010, 0x2D))[0], False))
+        self.assertTrue(confirmed(read(0x0010, 0x2D))[1])
+
     def test_moved(self):
         """the bits that moved are those of all writes of a register"""
         rows = json.loads(json_page(reported(recording(write(0x0018, 0x41), write(0x0018, 0x01), write(0x0018, 0x01)))))['registers']
