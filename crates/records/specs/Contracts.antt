@@ -3,6 +3,7 @@ use Prim.Native.Nat.{ℕ, _+_, _*_, _≤_}
 use mathlib.Core.Path.{_≡_}
 use mathlib.Core.Bool.{Bool, cond}
 use mathlib.Core.List.{List}
+use lib.Dec.{eqb}
 use lib.ListN.{length}
 use lib.Seq.{sets}
 use Rattle.touched.specs.Touched.{touchedWords}
@@ -10,6 +11,7 @@ use Rattle.chip.specs.declared.Chip.{Chip}
 use Rattle.regmap.specs.Format.{countOf}
 use Rattle.settings.specs.declared.Settings.{Settings}
 use Rattle.session.specs.declared.Event.{Event}
+use Rattle.session.specs.declared.Event.the-variants.{Aborted, Ended}
 use Rattle.registers.specs.Banks.{Banks, Mapped}
 use Rattle.writing.specs.Write.{touchesOn}
 use Rattle.records.specs.declared.Took.{Took}
@@ -19,6 +21,10 @@ use Rattle.records.specs.Records.{recordOf}
 -- the words after a write with the effect of this number
 abbrev pub touchedOn : List ℕ → ℕ → ℕ → List ℕ
 touchedOn ws a effect = cond (touchesOn effect) (touchedWords ws a) ws
+
+-- the end of a frame, by the bits that it breaks off
+abbrev pub endOf : ℕ → ℕ → Bool → Event
+endOf address bits in-data = cond (eqb bits 0) Ended (Aborted address bits in-data)
 
 -- before an event is taken: the map fits the banks, each register has its bit, and there is room for the record
 pub record Taking (c : Chip) (m : List ℕ) (b : Banks) (ws : List ℕ) (t : Settings) (e : Event) (old : List ℕ) (at : ℕ) : Type 0 where

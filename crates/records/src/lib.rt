@@ -8,7 +8,7 @@ ghost use Rattle.sizes.specs.Sizes.{recordSize};
 ghost use Rattle.registers.specs.Banks.{banks};
 ghost use Rattle.records.specs.Records.{recordsIn, recordBytes, writeRecord, readRecord, abortRecord};
 ghost use Rattle.writing.specs.Write.{touchesOn};
-ghost use Rattle.records.specs.Contracts.{touchedOn, Taking, Taken};
+ghost use Rattle.records.specs.Contracts.{endOf, touchedOn, Taking, Taken};
 
 mod slow;
 
@@ -126,6 +126,38 @@ fn touch_written(words: &mut [u64], address: u16, effect: u8)
 {
     if touches(effect) {
         touch(words, address as usize);
+    }
+}
+
+// Does what the end of a frame does to the banks, and puts the record of what it breaks off, if there is any. It touches no register.
+pub fn take_end(
+    chip: Chip,
+    map: &[u8],
+    active: &mut [u8],
+    buffer: &mut [u8],
+    words: &mut [u64],
+    settings: Settings,
+    armed: bool,
+    address: u16,
+    bits: u8,
+    in_data: bool,
+    records: &mut [u8],
+    at: usize,
+) -> Took
+    requires { ⌜ Taking chip (now map) (banks (now active) (now buffer)) (now words) settings (endOf address bits «in_data») (now records) at ⌝ }
+    ensures { λ r. ⌜ Taken chip (now (map .entry)) armed (banks (now (active .entry)) (now (buffer .entry))) (now (words .entry)) settings (endOf address bits «in_data») (now (records .entry)) at (banks (now (active .exit)) (now (buffer .exit))) (now (words .exit)) (now (records .exit)) r ⌝ }
+{
+    end_frame(chip, map, active, buffer, armed);
+    if bits == 0 {
+        return Took {
+            at: at,
+            armed: false,
+        };
+    }
+    put_abort(records, at, address, bits, in_data);
+    Took {
+        at: at + RECORD,
+        armed: false,
     }
 }
 

@@ -39,7 +39,7 @@ counted {c} {xs} {s₀} {s} {size} {i} h k = record {
   rest = rw add-one (omega (arith, rw (drop-cons xs i 0) at (k .rest)));
 }
 
-still-counting : {c : Chip} {xs : List ℕ} {s₀ s t : Port} {size i j : ℕ} → Counting c xs s₀ s size i → Quiet c xs s i t j → Counting c xs s₀ t size j
+pub still-counting : {c : Chip} {xs : List ℕ} {s₀ s t : Port} {size i j : ℕ} → Counting c xs s₀ s size i → Quiet c xs s i t j → Counting c xs s₀ t size j
 still-counting k still = k
 still-counting {size = size} k (more q h e) = rw (e, add-zero size) at (counted h (still-counting k q))
 

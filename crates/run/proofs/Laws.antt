@@ -110,7 +110,7 @@ again-one {c} {m} {xs} {w₀} {s} {armed} {act} {buf} {ws} {old} {new} {n} {i} h
     rw (ew, en, er) (turned h k)
 
 -- samples that give no event
-still-reading : {c : Chip} {m xs : List ℕ} {w₀ : World} {s t : Port} {armed : Bool} {act buf ws old new : List ℕ} {n i j : ℕ}
+pub still-reading : {c : Chip} {m xs : List ℕ} {w₀ : World} {s t : Port} {armed : Bool} {act buf ws old new : List ℕ} {n i j : ℕ}
     → Reading c m xs w₀ (worldOf s armed act buf ws) old new n i → Quiet c xs s i t j → Reading c m xs w₀ (worldOf t armed act buf ws) old new n j
 unfolding banksAfter armedAfter touchedAfter recordOf
 still-reading k still = k

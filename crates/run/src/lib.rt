@@ -1,17 +1,32 @@
 // What a list of samples does, in one pass over them from event to event: the session, the banks and the words that they lead to, and
 // their records, put or only counted.
+ghost use mathlib.Core.Path.{_≡_};
+ghost use mathlib.Core.Bool.{cond};
 ghost use Rattle.registers.specs.Banks.{banks};
+ghost use Rattle.records.specs.Contracts.{endOf};
 ghost use Rattle.run.specs.Reading.{world};
+ghost use Rattle.run.specs.Phased.{phaseOf, phased};
 ghost use Rattle.run.specs.Contracts.{Passing, Past, Ready, Ran};
+use bits::bit_at;
+use bits::shift_in;
 use chip::Chip;
+use chip::is_newer;
 use records::Took;
 use records::records_in;
+use records::take_end;
 use records::take_event;
 use session::Event;
+use session::Phase;
+use session::Port;
 use session::Session;
+use session::may_stall;
 use settings::Settings;
+use settings::next_address;
 use sizes::RECORD;
-use trace::next_event;
+use trace::Piece;
+use trace::last_of;
+use trace::level_of;
+use trace::next_stop;
 
 // Where a pass ended: the session, and how many bytes the records have.
 pub struct Passed {
@@ -56,8 +71,97 @@ fn pass_event(
     }
 }
 
-// Reads samples; or only counts their records where none is put. This is the one hot loop: what it calls has no other caller,
-// so that the compiler can keep the session in registers.
+// The line that bits come from, as its place in a sample: SDO or SDIO.
+fn line_at(sdo: bool) -> u8
+    ensures { λ r. ⌜ r ≡ cond sdo 3 2 ⌝ }
+{
+    if sdo { 3 } else { 2 }
+}
+
+// Takes the end of a frame, or only counts its record where none is put.
+fn pass_end(
+    chip: Chip,
+    put: bool,
+    map: &[u8],
+    active: &mut [u8],
+    buffer: &mut [u8],
+    words: &mut [u64],
+    settings: Settings,
+    armed: bool,
+    address: u16,
+    bits: u8,
+    in_data: bool,
+    records: &mut [u8],
+    at: usize,
+) -> Took
+    requires { ⌜ Passing chip put (now map) (banks (now active) (now buffer)) (now words) settings (endOf address bits «in_data») (now records) at ⌝ }
+    ensures { λ r. ⌜ Past chip put (now (map .entry)) armed (banks (now (active .entry)) (now (buffer .entry))) (now (words .entry)) settings (endOf address bits «in_data») (now (records .entry)) at (banks (now (active .exit)) (now (buffer .exit))) (now (words .exit)) (now (records .exit)) r ⌝ }
+{
+    if put {
+        return take_end(
+            chip,
+            map,
+            active,
+            buffer,
+            words,
+            settings,
+            armed,
+            address,
+            bits,
+            in_data,
+            records,
+            at,
+        );
+    }
+    if bits == 0 {
+        return Took {
+            at: at,
+            armed: armed,
+        };
+    }
+    Took {
+        at: at + RECORD,
+        armed: armed,
+    }
+}
+
+// The phase whose pieces have so many bits before the last.
+fn phase_of(last: u8) -> Phase
+    ensures { λ r. ⌜ r ≡ phaseOf last ⌝ }
+{
+    if last == 15 {
+        return Phase::Instruction;
+    }
+    if last == 7 {
+        return Phase::Data;
+    }
+    Phase::Rest
+}
+
+// A port with its phase.
+fn phased(s: Port, last: u8) -> Port
+    ensures { λ r. ⌜ r ≡ phased s last ⌝ }
+{
+    let phase = phase_of(last);
+    let settings = s.settings;
+    let used = s.used;
+    Port {
+        csb: s.csb,
+        sclk: s.sclk,
+        phase: phase,
+        bits: s.bits,
+        value: s.value,
+        address: s.address,
+        read: s.read,
+        settings: settings,
+        used: used,
+        left: s.left,
+    }
+}
+
+// Reads samples; or only counts their records where none is put. This is the one hot loop: what it calls has no other caller, so that
+// the compiler can keep the session in registers, and it sets fields where a port anew would be copied. The port's phase is told by
+// `last`, how many bits come before the last of a piece.
 pub fn run_samples(
     chip: Chip,
     put: bool,
@@ -72,34 +176,175 @@ pub fn run_samples(
     requires { ⌜ Ready chip put (now map) (world session (now active) (now buffer) (now words)) (now samples) (now records) ⌝ }
     ensures { λ r. ⌜ Ran chip put (now (map .entry)) (world session (now (active .entry)) (now (buffer .entry)) (now (words .entry))) (now (samples .entry)) (now (records .entry)) (world (r .session) (now (active .exit)) (now (buffer .exit)) (now (words .exit))) (r .size) (now (records .exit)) ⌝ }
 {
-    let mut port = session.port;
+    let mut s = session.port;
     let mut armed = session.armed;
+    let phase = s.phase;
+    let mut last = last_of(phase);
+    let newer = is_newer(chip);
     let mut at: usize = 0;
     let mut i: usize = 0;
     while i < samples.len() {
-        let next = next_event(chip, port, samples, i);
-        let event = next.event;
-        let settings = port.settings;
-        let took = pass_event(
-            chip,
-            put,
-            map,
-            active,
-            buffer,
-            words,
-            settings,
-            armed,
-            event,
-            records,
-            at,
-        );
-        armed = took.armed;
-        at = took.at;
-        port = next.port;
-        i = next.at;
+        let from = Piece {
+            level: level_of(s.sclk),
+            bits: s.bits,
+            value: s.value,
+            at: i,
+        };
+        let line = line_at(s.read & s.used.sdo & newer);
+        let p = next_stop(s.csb, samples, from, line, s.used.lsb, last);
+        s.sclk = p.level == 2;
+        s.bits = p.bits;
+        s.value = p.value;
+        i = p.at;
+        if samples.len() <= i {
+            continue;
+        }
+        let x = samples[i];
+        i += 1;
+        if s.csb {
+            // CSB falls: a frame starts, or a run that stalls goes on.
+            s.csb = false;
+            s.sclk = bit_at(x, 1);
+            if s.left != 0 {
+                continue;
+            }
+            last = 15;
+            let lsb = s.settings.lsb;
+            s.used.lsb = lsb;
+            let ascending = s.settings.ascending;
+            s.used.ascending = ascending;
+            let sdo = s.settings.sdo;
+            s.used.sdo = sdo;
+            let single = s.settings.single;
+            s.used.single = single;
+            continue;
+        }
+        if x % 2 == 1 {
+            // CSB rises: the frame ends, or a run stalls.
+            s.csb = true;
+            s.sclk = bit_at(x, 1);
+            if may_stall(s.left, s.bits) {
+                continue;
+            }
+            let settings = s.settings;
+            let took = pass_end(
+                chip,
+                put,
+                map,
+                active,
+                buffer,
+                words,
+                settings,
+                armed,
+                s.address,
+                s.bits,
+                last == 7,
+                records,
+                at,
+            );
+            armed = took.armed;
+            at = took.at;
+            last = 0;
+            s.bits = 0;
+            s.value = 0;
+            s.address = 0;
+            s.read = false;
+            s.used.lsb = false;
+            s.used.ascending = false;
+            s.used.sdo = false;
+            s.used.single = false;
+            s.left = 0;
+            continue;
+        }
+        // SCLK rises: the last bit of a piece.
+        if last == 7 {
+            let value = shift_in(s.used.lsb, s.value, s.bits, bit_at(x, line));
+            let event = Event::Whole {
+                read: s.read,
+                address: s.address,
+                byte: value as u8,
+            };
+            let settings = s.settings;
+            let took = pass_event(
+                chip,
+                put,
+                map,
+                active,
+                buffer,
+                words,
+                settings,
+                armed,
+                event,
+                records,
+                at,
+            );
+            armed = took.armed;
+            at = took.at;
+            if newer & (s.read | (2 <= s.address)) {
+                // No setting changes: the next address, or a new instruction.
+                s.sclk = true;
+                s.bits = 0;
+                s.value = 0;
+                if s.used.single {
+                    last = 15;
+                    s.address = 0;
+                    s.read = false;
+                    let lsb = s.settings.lsb;
+                    s.used.lsb = lsb;
+                    let ascending = s.settings.ascending;
+                    s.used.ascending = ascending;
+                    let sdo = s.settings.sdo;
+                    s.used.sdo = sdo;
+                    let single = s.settings.single;
+                    s.used.single = single;
+                    continue;
+                }
+                s.address = next_address(s.used.ascending, s.address);
+                continue;
+            }
+            let next = phased(s, last).step(chip, x);
+            let settings = next.settings;
+            let used = next.used;
+            let phase = next.phase;
+            s.csb = next.csb;
+            s.sclk = next.sclk;
+            s.bits = next.bits;
+            s.value = next.value;
+            s.address = next.address;
+            s.read = next.read;
+            s.settings = settings;
+            s.used = used;
+            s.left = next.left;
+            last = last_of(phase);
+            continue;
+        }
+        if (last == 15) & newer {
+            let value = shift_in(s.used.lsb, s.value, s.bits, bit_at(x, 2));
+            s.sclk = true;
+            s.bits = 0;
+            s.value = 0;
+            s.address = value % 0x8000;
+            s.read = 0x8000 <= value;
+            last = 7;
+            continue;
+        }
+        let next = phased(s, last).step(chip, x);
+        let settings = next.settings;
+        let used = next.used;
+        let phase = next.phase;
+        s.csb = next.csb;
+        s.sclk = next.sclk;
+        s.bits = next.bits;
+        s.value = next.value;
+        s.address = next.address;
+        s.read = next.read;
+        s.settings = settings;
+        s.used = used;
+        s.left = next.left;
+        last = last_of(phase);
     }
     let session = Session {
-        port: port,
+        port: phased(s, last),
         armed: armed,
     };
     Passed {

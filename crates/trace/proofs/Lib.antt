@@ -1,5 +1,5 @@
 pub mod Paths
 pub mod Pieces
+pub mod Onward
+mod Dense
 pub mod Scanning
-pub mod Whole
-mod Turned

@@ -24,21 +24,20 @@ use Rattle.session.specs.Step.{csbOf, sclkOf, csbFalls, csbRises, frameStarts, 
 use Rattle.session.specs.Event.{bitEvent, eventOf}
 use Rattle.session.proofs.Form.{Form, rests, instructs, has-data, stalls, passes, sound-form}
 use Rattle.session.proofs.Laws.{sound-step, fit-sound, few-bits}
-use Rattle.trace.specs.declared.quiet.Piece.{Piece}
-use Rattle.words.specs.Words.{Same, Pair, Clocked, gathered}
+use Rattle.trace.specs.declared.scan.Piece.{Piece}
+use Rattle.words.specs.Words.{High}
+use Rattle.words.specs.Lanes.{clockOf}
 use Rattle.trace.specs.Path.{Quiet, still, more}
 use Rattle.trace.specs.Piece.{held, lastOf, lineOf, Apt, Reached}
+use Rattle.trace.specs.Scan.{piece, levelAfter}
 use Rattle.trace.proofs.Paths.{joined}
 
-abbrev pub piece : ℕ → ℕ → ℕ → ℕ → Piece
-piece level bits value place = record { level = level; bits = bits; value = value; at = place }
-
 -- the levels of a sample, by its two lowest bits
-csb-low : (x : ℕ) → x % 2 ≡ 0 → csbOf x ≡ false
+pub csb-low : (x : ℕ) → x % 2 ≡ 0 → csbOf x ≡ false
 unfolding bitAt
 csb-low x e = ne-eqb (x / 2 ^ 0 % 2) 1 (λ (z : x / 2 ^ 0 % 2 ≡ 1). omega arith)
 
-csb-high : (x : ℕ) → x % 2 ≡ 1 → csbOf x ≡ true
+pub csb-high : (x : ℕ) → x % 2 ≡ 1 → csbOf x ≡ true
 unfolding bitAt
 csb-high x e = eq-eqb (x / 2 ^ 0 % 2) 1 (omega arith)
 
@@ -199,47 +198,6 @@ module _ (c : Chip) where
         → Reached c xs s i (piece (getD xs (p .at) 0 % 4) (p .bits + 1) (shiftedIn (s .used .lsb) (p .value) (p .bits) (bitAt (getD xs (p .at) 0) (lineOf c s))) (p .at + 1))
     bit {p} r h e k b = stepped _ r h refl (omega arith) (omega arith) (bit-step s p (getD xs (p .at) 0) low e (r .apt) k b)
 
-    -- n samples that change no level
-    idles : (p : Piece) (n : ℕ) → Reached c xs s i p → ((k : ℕ) → k < n → getD xs (p .at + k) 0 % 4 ≡ p .level) → p .at + n ≤ length xs
-        → Reached c xs s i (piece (p .level) (p .bits) (p .value) (p .at + n))
-    idles p zero r f h = rw add-zero r
-    idles p (suc n) r f h =
-        let q = idles p n r (λ k g. f k (omega arith)) (omega arith) in
-        let e = f n (omega arith) in
-        let a : p .at + n + 1 ≡ p .at + suc n = omega arith in
-        rw (e, a) at (idle q (omega arith) (omega (arith, e, r .apt .even)) (omega (arith, e)))
-
-    pub past : (p : Piece) (j : ℕ) → Reached c xs s i p → Same xs 3 (p .level) (p .at) j → Reached c xs s i (piece (p .level) (p .bits) (p .value) j)
-    past p j r m =
-        let a : p .at + (j - p .at) ≡ j = omega (arith, m .ahead) in
-        rw a at (idles p (j - p .at) r (λ k g. sym (and-mask (getD xs (p .at + k) 0) 2) ∙ m .all k g) (omega (arith, m .ahead, m .within)))
-
-    -- n bits, each of a pair of samples, and the first sample of the next
-    pairs : (level j n : ℕ) → Reached c xs s i (piece level 0 0 j) → Clocked xs j (suc n) → n ≤ lastOf (s .phase)
-        → Reached c xs s i (piece 0 n (gathered xs (lineOf c s) (s .used .lsb) j n) (j + 2 * n + 1))
-    unfolding Pair gathered
-    pairs level j zero r c h =
-        let p = rw add-zero at (c .pair 0 (omega arith)) in
-        rw (p .0, ← add-zero j) at (idle r (omega (arith, c .within)) (omega (arith, p .0)) (omega (arith, p .0)))
-    pairs level j (suc n) r c h =
-        let before : Clocked xs j (suc n) = record { within = omega (arith, c .within); pair = λ k g. c .pair k (omega arith) } in
-        let q = pairs level j n r before (omega arith) in
-        let p = c .pair n (omega arith) in
-        let b = bit q (omega (arith, c .within)) (omega (arith, p .1)) (omega (arith, p .1)) (omega arith) in
-        let e : j + 2 * n + 1 + 1 ≡ j + 2 * suc n = omega arith in
-        let z : getD xs (j + 2 * n + 1 + 1) 0 % 4 ≡ 0 = rw e (c .pair (suc n) (omega arith) .0) in
-        rw (z, add-one n, e) at (idle b (omega (arith, c .within)) (omega (arith, z)) (omega (arith, z)))
-
-  -- at its start, a piece has no bits and no value
-  pub no-value : (s : Port) → soundPort c s ≡ true → s .bits ≡ 0 → s .value ≡ 0
-  no-value s h e = omega (arith, rw e at (fit-sound c s h .small))
-
-  -- all bits of a piece but the last, each of a pair of samples, and the first sample of the last
-  pub bits-passed : {xs : List ℕ} {s : Port} {i : ℕ} (n : ℕ) → s .csb ≡ false → soundPort c s ≡ true → s .bits ≡ 0 → n ≡ lastOf (s .phase)
-      → Clocked xs i (suc n) → i ≤ length xs
-      → Reached c xs s i (piece 0 n (gathered xs (lineOf c s) (s .used .lsb) i n) (i + 2 * n + 1))
-  bits-passed {xs} {s} {i} n low f e l c h = pairs low (cond (s .sclk) 2 0) i n (own (piece (cond (s .sclk) 2 0) 0 0 i) f h refl (sym e) (sym (no-value s f e))) c (omega arith)
-
   -- CSB high before and now
   module _ (s : Port) (p : Piece) (x : ℕ) (up : s .csb ≡ true) (e : x % 2 ≡ 1) where
     high-step : (stepOf c (held s p) x ≡ held s (piece (x % 4 - 1) (p .bits) (p .value) (p .at + 1))) × (eventOf c (held s p) x ≡ Nothing)
@@ -263,13 +221,20 @@ module _ (c : Chip) where
         let a : p .at + suc n + 1 ≡ p .at + suc (suc n) = omega arith in
         rw a at (high q (omega arith) (f (suc n) (omega arith)))
 
-    pub past-high : (p : Piece) (j : ℕ) → Reached c xs s i p → Same xs 1 1 (p .at) j → p .at < j
-        → Reached c xs s i (piece (getD xs (j - 1) 0 % 4 - 1) (p .bits) (p .value) j)
-    past-high p j r m h =
-        let n = j - p .at - 1 in
-        let a : p .at + suc n ≡ j = omega arith in
-        let b : p .at + n ≡ j - 1 = omega arith in
-        rw (a, b) at (highs p n r (λ k g. sym (and-mask (getD xs (p .at + k) 0) 1) ∙ m .all k (omega arith)) (omega (arith, m .within)))
+    pub past-high : (p : Piece) (j : ℕ) → Reached c xs s i p → High xs (p .at) j
+        → Reached c xs s i (piece (levelAfter xs (p .at) (p .level) (j - p .at)) (p .bits) (p .value) j)
+    unfolding levelAfter
+    past-high p j r m = by (j - p .at) refl
+      where
+        by : (n : ℕ) → j - p .at ≡ n → Reached c xs s i (piece (levelAfter xs (p .at) (p .level) (j - p .at)) (p .bits) (p .value) j)
+        by zero e =
+            let a : p .at ≡ j = omega (arith, m .ahead) in
+            rw (e, ← a) r
+        by (suc n) e =
+            let a : p .at + suc n ≡ j = omega (arith, m .ahead) in
+            let up = highs p n r (λ k g. m .all k (omega (arith, e))) (omega (arith, a, m .within)) in
+            let l : clockOf (getD xs (p .at + n) 0) ≡ getD xs (p .at + n) 0 % 4 - 1 = omega (arith, m .all n (omega (arith, e))) in
+            rw (e, l, ← a) up
 
   pub line-lt : (s : Port) → lineOf c s < 4
   line-lt s = each (λ (n : ℕ). n < 4) (isData (s .phase) && s .read && usedOn c s .sdo) (λ e. omega arith) (λ e. omega arith)

@@ -5,7 +5,6 @@ use mathlib.Core.List.{List}
 use Prim.Native.Nat.{ℕ, _+_, _<_, _≤_}
 use native.Mathlib.Omega.{arith}
 use lib.ListN.{length, getD}
-use Rattle.settings.specs.Settings.{nextAddress}
 use Rattle.chip.specs.declared.Chip.{Chip}
 use Rattle.session.specs.declared.Port.{Port}
 use Rattle.session.specs.declared.Event.{Event}
@@ -14,12 +13,10 @@ use Rattle.session.specs.State.{soundPort}
 use Rattle.session.specs.Step.{stepOf}
 use Rattle.session.specs.Event.{eventOf}
 use Rattle.session.proofs.Laws.{sound-step}
-use Rattle.trace.specs.declared.quiet.Piece.{Piece}
-use Rattle.words.specs.Words.{gathered}
+use Rattle.trace.specs.declared.scan.Piece.{Piece}
 use Rattle.trace.specs.Path.{Quiet, still, more, none, one, Passed, happens}
-use Rattle.trace.specs.Piece.{held, lineOf, Reached, ByteAhead}
-use Rattle.trace.proofs.Paths.{joined, joined-next}
-use Rattle.trace.proofs.Whole.{moved, whole-byte}
+use Rattle.trace.specs.Piece.{held, Reached}
+use Rattle.trace.proofs.Paths.{joined}
 
 pub quiet-event : (e : Event) → happens e ≡ false → e ≡ Nothing
 quiet-event Nothing h = refl
@@ -55,16 +52,6 @@ module _ (c : Chip) where
 
     pub scan-event : (t : Port) (e : Event) → j < length xs → t ≡ stepOf c s (getD xs j 0) → e ≡ eventOf c s (getD xs j 0) → Passed c xs s₀ i e t (j + 1)
     scan-event t e h es ee = rw (es, ee) (record { further = omega arith; within = omega arith; path = one (k .path) h })
-
-    pub scan-byte : (e : Event) (a : ℕ) → ByteAhead c xs s j → e ≡ Whole (s .read) (s .address) (gathered xs (lineOf c s) (s .used .lsb) j 8)
-        → a ≡ nextAddress (s .used .ascending) (s .address) → Passed c xs s₀ i e (moved s a) (j + 16)
-    scan-byte e a b ee ea =
-        rw (ee, ea)
-        (record {
-          further = omega arith;
-          within = b .clocked .within;
-          path = joined-next (k .path) (whole-byte (k .sound) b);
-        })
 
     pub scan-ended : (e : Event) → e ≡ Nothing → i < length xs → length xs ≤ j → Passed c xs s₀ i e s j
     scan-ended e q h l = rw q (record { further = omega arith; within = k .within; path = none (k .path) })

@@ -1,20 +1,17 @@
 -- What samples without an event change of a port: the level of SCLK, the bits taken and their value.
 use Prim.Native.Nat.{ℕ, _%_, _<_, _≤_}
 use mathlib.Core.Path.{_≡_}
-use mathlib.Core.Bool.{Bool, true, cond, not, _&&_, _||_}
-use mathlib.Core.List.{List, [], _∷_}
+use mathlib.Core.Bool.{true, cond, _&&_}
+use mathlib.Core.List.{List}
 use lib.ListN.{length}
-use lib.Dec.{eqb, leb}
-use Rattle.bits.specs.Tests.{every}
+use lib.Dec.{eqb}
 use Rattle.chip.specs.declared.Chip.{Chip}
-use Rattle.chip.specs.Chip.{isNewer}
 use Rattle.session.specs.declared.Phase.{Phase}
 use Rattle.session.specs.declared.Phase.the-variants.{Rest, Instruction, Data}
 use Rattle.session.specs.declared.Port.{Port}
 use Rattle.session.specs.State.{isData, soundPort}
 use Rattle.session.specs.Step.{usedOn}
-use Rattle.trace.specs.declared.quiet.Piece.{Piece}
-use Rattle.words.specs.Words.{Clocked}
+use Rattle.trace.specs.declared.scan.Piece.{Piece}
 use Rattle.trace.specs.Path.{Quiet}
 
 -- a port with the level, the bits and the value of a piece
@@ -54,13 +51,3 @@ pub record Reached (c : Chip) (xs : List ℕ) (s : Port) (i : ℕ) (p : Piece) :
   pub within : p .at ≤ length xs
   pub apt : Apt c s p
   pub path : Quiet c xs s i (held s p) (p .at)
-
--- on a newer chip, a byte of data starts whose end changes only the address
-abbrev pub streamTests : Chip → Port → List Bool
-streamTests c s =
-    isNewer c ∷ isData (s .phase) ∷ eqb (s .bits) 0 ∷ not (s .csb) ∷ not (s .used .single) ∷ (s .read || leb 2 (s .address)) ∷ []
-
--- and its sixteen samples come next
-pub record ByteAhead (c : Chip) (xs : List ℕ) (s : Port) (i : ℕ) : Type 0 where
-  pub streams : every (streamTests c s) ≡ true
-  pub clocked : Clocked xs i 8

@@ -1,1 +1,3 @@
-pub mod Masks
+pub mod Lanes
+pub mod Samples
+pub mod Seconds

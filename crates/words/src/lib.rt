@@ -1,82 +1,99 @@
 // Eight samples at a time, as one number: the first sample is its lowest byte.
 ghost use mathlib.Core.Path.{_≡_};
-ghost use mathlib.Core.Bool.{true};
-ghost use Prim.Native.Nat.{_+_, _*_, _<_, _≤_};
+ghost use Prim.Native.Nat.{_+_, _<_, _≤_};
 ghost use lib.ListN.{length};
-ghost use Rattle.words.specs.Words.{wordOf, Same, Clocked, gathered};
-use bits::bit_at;
-use bits::shift_in;
+ghost use Rattle.bits.specs.Bits.{bitAt};
+ghost use Rattle.words.specs.Words.{wordOf, High, PastHigh};
+ghost use Rattle.words.specs.Lanes.{Level, highsIn, lowsIn, risesIn, nibble};
+
+// SCLK of each of eight samples.
+const CLOCKS: u64 = 0x0202_0202_0202_0202;
 
 // One in each of eight samples.
 const EACH: u64 = 0x0101_0101_0101_0101;
 
-// CSB and SCLK of each of eight samples.
-const LEVELS: u64 = 0x0303_0303_0303_0303;
+// One in every second of eight samples.
+const SECONDS: u64 = 0x0001_0001_0001_0001;
 
-// CSB low, and SCLK low and high in turn: four bits.
-const CLOCKED: u64 = 0x0200_0200_0200_0200;
-
-// The eight samples from a place on.
-fn word_at(samples: &[u8], at: usize) -> u64
+// The eight samples from a place on. One expression, so that the compiler reads them at once.
+pub fn word_at(samples: &[u8], at: usize) -> u64
     requires { ⌜ at + 8 ≤ length (now samples) ⌝ }
     ensures { λ r. ⌜ r ≡ wordOf (now (samples .entry)) at 8 ⌝ }
 {
-    let mut word: u64 = 0;
-    let mut k: usize = 0;
-    while k < 8 {
-        word = word | ((samples[at + k] as u64) << (8 * k));
-        k += 1;
-    }
-    word
+    (samples[at] as u64)
+        | ((samples[at + 1] as u64) << 8)
+        | ((samples[at + 2] as u64) << 16)
+        | ((samples[at + 3] as u64) << 24)
+        | ((samples[at + 4] as u64) << 32)
+        | ((samples[at + 5] as u64) << 40)
+        | ((samples[at + 6] as u64) << 48)
+        | ((samples[at + 7] as u64) << 56)
 }
 
-// Whether the eight samples from a place on are there and have these levels, of those that the mask names.
-fn all_at(samples: &[u8], at: usize, mask: u8, levels: u8) -> bool
-    requires { ⌜ at ≤ length (now samples) ⌝ }
-    ensures { λ r. ⌜ (r ≡ true → Same (now (samples .entry)) mask levels at (at + 8)) ⌝ }
+// CSB high, in each of eight samples.
+pub fn highs(word: u64) -> u64
+    ensures { λ r. ⌜ r ≡ highsIn 8 word ⌝ }
 {
-    if samples.len() - at < 8 {
-        return false;
-    }
-    word_at(samples, at) & (mask as u64 * EACH) == levels as u64 * EACH
+    word & EACH
 }
 
-// The place past the samples that have these levels, or past some of them: one, or nine at a time.
-pub fn past_same(samples: &[u8], at: usize, mask: u8, levels: u8) -> usize
-    requires { ⌜ at < length (now samples) ⌝ }
-    ensures { λ r. ⌜ Same (now (samples .entry)) mask levels at r ⌝ }
+// How many of eight samples come before the first with CSB high.
+pub fn lows(word: u64) -> usize
+    ensures { λ r. ⌜ r ≡ lowsIn 8 word ⌝ }
 {
-    if samples[at] & mask != levels {
-        return at;
-    }
-    if all_at(samples, at + 1, mask, levels) {
-        return at + 9;
-    }
-    at + 1
+    (u64::trailing_zeros(word & EACH) / 8) as usize
 }
 
-// Whether the sixteen samples from a place on are there and give eight bits, SCLK low and high in turn.
-pub fn clocked(samples: &[u8], at: usize) -> bool
-    requires { ⌜ at ≤ length (now samples) ⌝ }
-    ensures { λ r. ⌜ (r ≡ true → Clocked (now (samples .entry)) at 8) ⌝ }
+// The rises of SCLK in eight samples, as one bit in each, by the level before them; those before CSB is high.
+pub fn rises(word: u64, level: u8) -> u64
+    requires { ⌜ Level level ⌝ }
+    ensures { λ r. ⌜ r ≡ risesIn (lowsIn 8 word) level word ⌝ }
 {
-    if samples.len() - at < 16 {
-        return false;
+    let clock = word & CLOCKS;
+    let rising = clock & (clock ^ ((clock << 8) | level as u64));
+    let high = word & EACH;
+    if high == 0 {
+        return rising;
     }
-    (word_at(samples, at) & LEVELS == CLOCKED) & (word_at(samples, at + 8) & LEVELS == CLOCKED)
+    rising & (high - 1)
 }
 
-// The value of so many bits, each the level of a line in the second of two samples.
-pub fn gather(samples: &[u8], at: usize, line: u8, lsb: bool, count: u8) -> u16
-    requires { ⌜ (at + 2 * count ≤ length (now samples)) × (line < 4) × (count ≤ 16) ⌝ }
-    ensures { λ r. ⌜ r ≡ gathered (now (samples .entry)) line lsb at count ⌝ }
+// The levels of a line in every second of eight samples, as four bits: the first of them is the highest.
+pub fn four_bits(word: u64, line: u8) -> u8
+    requires { ⌜ line < 4 ⌝ }
+    ensures { λ r. ⌜ r ≡ nibble (bitAt word (8 + line)) (bitAt word (24 + line)) (bitAt word (40 + line)) (bitAt word (56 + line)) ⌝ }
 {
-    let mut value: u16 = 0;
-    let mut bits: u8 = 0;
-    while bits < count {
-        let bit = bit_at(samples[at + 2 * (bits as usize) + 1], line);
-        value = shift_in(lsb, value, bits, bit);
-        bits += 1;
+    let x = (word >> (8 + line)) & SECONDS;
+    let t = (x << 1) | (x >> 16);
+    (((t << 2) | (t >> 32)) % 16) as u8
+}
+
+// Past samples with CSB high, eight at a time.
+fn past_highs(samples: &[u8], from: usize) -> usize
+    requires { ⌜ from ≤ length (now samples) ⌝ }
+    ensures { λ r. ⌜ High (now (samples .entry)) from r ⌝ }
+{
+    let mut at = from;
+    while 8 <= samples.len() - at {
+        if highs(word_at(samples, at)) != EACH {
+            return at;
+        }
+        at += 8;
     }
-    value
+    at
+}
+
+// The place of the first sample with CSB low, or the end.
+pub fn past_high(samples: &[u8], from: usize) -> usize
+    requires { ⌜ from ≤ length (now samples) ⌝ }
+    ensures { λ r. ⌜ PastHigh (now (samples .entry)) from r ⌝ }
+{
+    let mut at = past_highs(samples, from);
+    while at < samples.len() {
+        if samples[at] % 2 == 0 {
+            return at;
+        }
+        at += 1;
+    }
+    at
 }

@@ -1,4 +1,4 @@
--- `next_event` meets its contract: a whole byte where one comes next; else samples that give no event, and one sample by itself.
+-- `next_event` meets its contract: samples that give no event, and one sample by itself.
 use borrow.Author.Needs.{needs}
 use Prim.Native.Nat.{_-_}
 use mathlib.Core.Path.{_≡_, refl, sym, _∙_}
@@ -6,7 +6,7 @@ use native.Mathlib.Omega.{arith}
 use lib.ListN.{length}
 use Rattle.session.specs.declared.Event.the-variants.{Nothing}
 use Rattle.session.proofs.Laws.{fit-sound}
-use Rattle.trace.proofs.Scanning.{Scanned, scan-begun, quiet-event, scan-quiet, scan-nothing, scan-event, scan-byte, scan-ended}
+use Rattle.trace.proofs.Scanning.{Scanned, scan-begun, quiet-event, scan-quiet, scan-nothing, scan-event, scan-ended}
 use Rattle.trace.proofs.next_event.Statement.{statement}
 use Rattle.trace.proofs.next_event.Tie as tie
 
@@ -19,23 +19,11 @@ abbrev μ-loop : tie.MeasureT-loop
 loop-holds : tie.Need-loop-holds Inv-loop μ-loop
 loop-holds c = (refl, scan-begun _ (c .before .pre .0) (omega arith))
 
-byte-ahead-requires : tie.Need-byte-ahead-requires Inv-loop μ-loop
-byte-ahead-requires c κs = c .before .loop .inv .1 .within
-
-byte-event-requires : tie.Need-byte-event-requires Inv-loop μ-loop
-byte-event-requires c κs = c .before .byte-ahead .ensures (c .if1 .taken)
-
-next-address-requires : tie.Need-next-address-requires Inv-loop μ-loop
-next-address-requires c κs = fit-sound _ _ (c .before .before .before .before .loop .inv .1 .sound) .near
-
-add-at : tie.Need-add-at Inv-loop μ-loop
-add-at c = omega arith
-
 quiet-requires : tie.Need-quiet-requires Inv-loop μ-loop
-quiet-requires c κs = (c .before .before .before .loop .inv .1 .sound, c .before .before .before .loop .inv .1 .within)
+quiet-requires c κs = (c .before .loop .inv .1 .sound, c .before .loop .inv .1 .within)
 
 shared-slice-read-x : tie.Need-shared-slice-read-x Inv-loop μ-loop
-shared-slice-read-x c = c .before .if2 .left
+shared-slice-read-x c = c .before .if1 .left
 
 event-requires : tie.Need-event-requires Inv-loop μ-loop
 event-requires c κs = fit-sound _ _ (c .before .before .before .quiet .ensures .apt .sound)
@@ -43,26 +31,26 @@ event-requires c κs = fit-sound _ _ (c .before .before .before .quiet .ensures 
 step-requires : tie.Need-step-requires Inv-loop μ-loop
 step-requires c κs = fit-sound _ _ (c .before .before .before .before .quiet .ensures .apt .sound)
 
-add-at-2 : tie.Need-add-at-2 Inv-loop μ-loop
-add-at-2 c = omega (arith, c .before .before .before .before .before .before .before .before .before .before .before .good .1 .1 .0, c .before .before .before .if2 .left)
+add-at : tie.Need-add-at Inv-loop μ-loop
+add-at c = omega (arith, c .before .before .before .before .before .before .before .before .before .good .1 .1 .0, c .before .before .before .if1 .left)
 
 happened-requires : tie.Need-happened-requires Inv-loop μ-loop
 happened-requires c κs = search needs
 
 returns : tie.Need-returns Inv-loop μ-loop
 returns c =
-    scan-event _ (scan-quiet _ (c .before .before .before .before .before .before .before .before .before .before .before .loop .inv .1) (c .before .before .before .before .before .before .before .quiet .ensures))
-    _ _ (c .before .before .before .before .before .if2 .left) (c .before .before .step .ensures) (c .before .before .before .event .ensures)
+    scan-event _ (scan-quiet _ (c .before .before .before .before .before .before .before .before .before .loop .inv .1) (c .before .before .before .before .before .before .before .quiet .ensures))
+    _ _ (c .before .before .before .before .before .if1 .left) (c .before .before .step .ensures) (c .before .before .before .event .ensures)
 
 loop-less : tie.Need-loop-less Inv-loop μ-loop
-loop-less c = omega (arith, c .before .before .before .before .before .before .before .quiet .ensures .ahead, c .before .before .before .before .before .if2 .left)
+loop-less c = omega (arith, c .before .before .before .before .before .before .before .quiet .ensures .ahead, c .before .before .before .before .before .if1 .left)
 
 loop-again : tie.Need-loop-again Inv-loop μ-loop
 loop-again c =
-    let none = sym (c .before .happened .ensures) ∙ c .if3 .left in (
+    let none = sym (c .before .happened .ensures) ∙ c .if2 .left in (
       quiet-event _ none,
-      scan-nothing _ (scan-quiet _ (c .before .before .before .before .before .before .before .before .before .before .before .loop .inv .1) (c .before .before .before .before .before .before .before .quiet .ensures))
-          _ _ (c .before .before .before .before .before .if2 .left) (c .before .before .step .ensures) (c .before .before .before .event .ensures) none,
+      scan-nothing _ (scan-quiet _ (c .before .before .before .before .before .before .before .before .before .loop .inv .1) (c .before .before .before .before .before .before .before .quiet .ensures))
+          _ _ (c .before .before .before .before .before .if1 .left) (c .before .before .step .ensures) (c .before .before .before .event .ensures) none,
     )
 
 returns-2 : tie.Need-returns-2 Inv-loop μ-loop
@@ -70,13 +58,8 @@ returns-2 c = scan-ended _ (c .before .loop .inv .1) _ (c .before .loop .inv .0)
 
 returns-3 : tie.Need-returns-3 Inv-loop μ-loop
 returns-3 c =
-    scan-byte _ (c .before .before .before .before .before .loop .inv .1) _ _ (c .before .before .before .byte-ahead .ensures (c .before .before .if1 .taken))
-    (c .before .byte-event .ensures) (c .next-address .ensures)
-
-returns-4 : tie.Need-returns-4 Inv-loop μ-loop
-returns-4 c =
-    scan-ended _ (scan-quiet _ (c .before .before .before .before .before .before .loop .inv .1) (c .before .before .quiet .ensures)) _ (c .before .before .before .before .before .before .loop .inv .0)
-    (c .before .before .before .before .before .before .before .before .pre .1) (c .if2 .taken)
+    scan-ended _ (scan-quiet _ (c .before .before .before .before .loop .inv .1) (c .before .before .quiet .ensures)) _ (c .before .before .before .before .loop .inv .0)
+    (c .before .before .before .before .before .before .pre .1) (c .if1 .taken)
 
 pub next-event-spec : {M : Type 1} → statement M
 next-event-spec =
@@ -85,19 +68,14 @@ next-event-spec =
     Inv-loop
     μ-loop
     loop-holds
-    byte-ahead-requires
-    byte-event-requires
-    next-address-requires
-    add-at
     quiet-requires
     shared-slice-read-x
     event-requires
     step-requires
-    add-at-2
+    add-at
     happened-requires
     returns
     loop-less
     loop-again
     returns-2
-    returns-3
-    returns-4)
+    returns-3)

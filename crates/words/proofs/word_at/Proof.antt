@@ -1,67 +1,108 @@
--- `word_at` meets its contract: the samples taken are a number below the next one's place.
-use Prim.Native.Nat.{_+_, _-_, _≤_}
-use mathlib.Core.Path.{_≡_, refl}
+-- `word_at` meets its contract: each sample stands above those before it.
+use Prim.Native.Nat.{_+_}
 use native.Mathlib.Omega.{arith}
-use Rattle.words.specs.Words.{wordOf}
-use Rattle.words.proofs.Masks.{word-turn}
+use borrow.Author.Needs.{needs}
+use Rattle.words.proofs.Samples.{word-of-eight}
 use Rattle.words.proofs.word_at.Statement.{statement}
 use Rattle.words.proofs.word_at.Tie as tie
 
-abbrev Inv-loop : tie.InvT-loop
-Inv-loop samples at word₀ k₀ word k = (k ≤ 8) × (word ≡ wordOf samples at k)
+shared-slice-read-result : tie.Need-shared-slice-read-result
+shared-slice-read-result c = search needs
 
-abbrev μ-loop : tie.MeasureT-loop
-μ-loop samples at word₀ k₀ word k = 8 - k
+cast-result : tie.Need-cast-result
+cast-result c = omega (arith, c .shared-slice-known .given (c .before .args .at))
 
-loop-holds : tie.Need-loop-holds Inv-loop μ-loop
-unfolding wordOf
-loop-holds c = (omega arith, refl)
+add-result : tie.Need-add-result
+add-result c = search needs
 
-add-word : tie.Need-add-word Inv-loop μ-loop
-add-word c = omega arith
+shared-slice-read-result-2 : tie.Need-shared-slice-read-result-2
+shared-slice-read-result-2 c = search needs
 
-shared-slice-read-word : tie.Need-shared-slice-read-word Inv-loop μ-loop
-shared-slice-read-word c = omega arith
+cast-result-2 : tie.Need-cast-result-2
+cast-result-2 c = omega (arith, c .shared-slice-known2 .given (c .before .before .args .at + 1))
 
-cast-word : tie.Need-cast-word Inv-loop μ-loop
-cast-word c = omega (arith, c .shared-slice-known .given (c .before .before .before .args .at + c .before .before .loop .k))
+add-result-2 : tie.Need-add-result-2
+add-result-2 c = search needs
 
-mul-word : tie.Need-mul-word Inv-loop μ-loop
-mul-word c = omega arith
+shared-slice-read-result-3 : tie.Need-shared-slice-read-result-3
+shared-slice-read-result-3 c = search needs
 
-shl-word : tie.Need-shl-word Inv-loop μ-loop
-shl-word c = omega arith
+cast-result-3 : tie.Need-cast-result-3
+cast-result-3 c = omega (arith, c .shared-slice-known3 .given (c .before .before .before .args .at + 2))
 
-add-k : tie.Need-add-k Inv-loop μ-loop
-add-k c = omega arith
+add-result-3 : tie.Need-add-result-3
+add-result-3 c = search needs
 
-loop-less : tie.Need-loop-less Inv-loop μ-loop
-loop-less c = omega arith
+shared-slice-read-result-4 : tie.Need-shared-slice-read-result-4
+shared-slice-read-result-4 c = search needs
 
-loop-again : tie.Need-loop-again Inv-loop μ-loop
-loop-again c = (
-  omega arith,
-  word-turn _ (λ k. c .shared-slice-known .given k .fits) _ _ _ (c .before .before .loop .inv .1) (c .before .loop-test .taken),
-)
+cast-result-4 : tie.Need-cast-result-4
+cast-result-4 c = omega (arith, c .shared-slice-known4 .given (c .before .before .before .before .args .at + 3))
 
-returns : tie.Need-returns Inv-loop μ-loop
-returns c =
-    let e : c .before .loop .k ≡ 8 = omega arith in
-    rw e at (c .before .loop .inv .1)
+add-result-4 : tie.Need-add-result-4
+add-result-4 c = search needs
+
+shared-slice-read-result-5 : tie.Need-shared-slice-read-result-5
+shared-slice-read-result-5 c = search needs
+
+cast-result-5 : tie.Need-cast-result-5
+cast-result-5 c = omega (arith, c .shared-slice-known5 .given (c .before .before .before .before .before .args .at + 4))
+
+add-result-5 : tie.Need-add-result-5
+add-result-5 c = search needs
+
+shared-slice-read-result-6 : tie.Need-shared-slice-read-result-6
+shared-slice-read-result-6 c = search needs
+
+cast-result-6 : tie.Need-cast-result-6
+cast-result-6 c = omega (arith, c .shared-slice-known6 .given (c .before .before .before .before .before .before .args .at + 5))
+
+add-result-6 : tie.Need-add-result-6
+add-result-6 c = search needs
+
+shared-slice-read-result-7 : tie.Need-shared-slice-read-result-7
+shared-slice-read-result-7 c = search needs
+
+cast-result-7 : tie.Need-cast-result-7
+cast-result-7 c = omega (arith, c .shared-slice-known7 .given (c .before .before .before .before .before .before .before .args .at + 6))
+
+add-result-7 : tie.Need-add-result-7
+add-result-7 c = search needs
+
+shared-slice-read-result-8 : tie.Need-shared-slice-read-result-8
+shared-slice-read-result-8 c = search needs
+
+cast-result-8 : tie.Need-cast-result-8
+cast-result-8 c = omega (arith, c .shared-slice-known8 .given (c .before .before .before .before .before .before .before .before .args .at + 7))
+
+returns : tie.Need-returns
+returns c = word-of-eight _ (λ k. c .shared-slice-known8 .given k .fits) _
 
 pub word-at-spec : {M : Type 1} → statement M
 word-at-spec =
     tie.close
     (tie.spec
-    Inv-loop
-    μ-loop
-    loop-holds
-    add-word
-    shared-slice-read-word
-    cast-word
-    mul-word
-    shl-word
-    add-k
-    loop-less
-    loop-again
+    shared-slice-read-result
+    cast-result
+    add-result
+    shared-slice-read-result-2
+    cast-result-2
+    add-result-2
+    shared-slice-read-result-3
+    cast-result-3
+    add-result-3
+    shared-slice-read-result-4
+    cast-result-4
+    add-result-4
+    shared-slice-read-result-5
+    cast-result-5
+    add-result-5
+    shared-slice-read-result-6
+    cast-result-6
+    add-result-6
+    shared-slice-read-result-7
+    cast-result-7
+    add-result-7
+    shared-slice-read-result-8
+    cast-result-8
     returns)

@@ -1,49 +1,38 @@
--- `low` meets its contract: each turn goes on from the piece that is reached.
-use Prim.Native.Nat.{_-_}
+-- `low` meets its contract: a scan on the port's line, in its order.
+use mathlib.Core.Path.{refl, ap, _∙_}
 use native.Mathlib.Omega.{arith}
-use lib.ListN.{length}
-use Rattle.trace.specs.Piece.{Reached}
-use Rattle.trace.proofs.Pieces.{reached-join}
+use Rattle.trace.specs.Scan.{piece}
+use Rattle.trace.proofs.Pieces.{own, line-lt}
+use Rattle.trace.proofs.Onward.{start-standing}
+use borrow.Author.Needs.{needs}
 use Rattle.trace.proofs.quiet.low.Statement.{statement}
 use Rattle.trace.proofs.quiet.low.Tie as tie
 
-abbrev Inv-loop : tie.InvT-loop
-Inv-loop chip port samples from p₀ p = Reached chip samples port from p
+level-of-requires : tie.Need-level-of-requires
+level-of-requires c κs = search needs
 
-abbrev μ-loop : tie.MeasureT-loop
-μ-loop chip port samples from p₀ p = length samples - p .at
+line-of-requires : tie.Need-line-of-requires
+line-of-requires c κs = search needs
 
-past-bits-requires : tie.Need-past-bits-requires Inv-loop μ-loop
-past-bits-requires c κs = c .before .pre
+last-of-requires : tie.Need-last-of-requires
+last-of-requires c κs = search needs
 
-loop-holds : tie.Need-loop-holds Inv-loop μ-loop
-loop-holds c = c .past-bits .ensures
+take-each-requires : tie.Need-take-each-requires
+take-each-requires c κs =
+    let a = c .before .before .before .before in (
+      start-standing (a .args .chip) (a .args .port) _ (a .pre .1) (a .pre .2) (c .before .before .level-of .ensures) refl refl (c .last-of .ensures),
+      rw (c .before .line-of .ensures) (line-lt (a .args .chip) (a .args .port)),
+    )
 
-past-low-requires : tie.Need-past-low-requires Inv-loop μ-loop
-past-low-requires c κs = (c .before .before .before .before .before .pre .0, c .before .before .loop .inv .apt, c .if1 .taken)
-
-returns : tie.Need-returns Inv-loop μ-loop
-returns c = reached-join _ (c .before .before .before .before .before .before .loop .inv) (c .before .before .before .past-low .ensures)
-
-loop-less : tie.Need-loop-less Inv-loop μ-loop
-loop-less c = omega (arith, c .before .before .before .past-low .ensures, c .if2 .left, c .before .before .before .before .if1 .taken)
-
-loop-again : tie.Need-loop-again Inv-loop μ-loop
-loop-again c = reached-join _ (c .before .before .before .before .before .before .loop .inv) (c .before .before .before .past-low .ensures)
-
-returns-2 : tie.Need-returns-2 Inv-loop μ-loop
-returns-2 c = c .before .before .loop .inv
+returns : tie.Need-returns
+returns c =
+    let a = c .before .before .before .before .before in
+    let p = piece (c .before .before .before .level-of .result) (a .args .port .bits) (a .args .port .value) (a .args .from) in
+    c .take-each .ensures .onward .carried
+    (record { low = a .pre .0; line-is = c .before .before .line-of .ensures; order-is = refl; last-is = c .before .last-of .ensures })
+    (own (a .args .chip) p (a .pre .1) (a .pre .2) (c .before .before .before .level-of .ensures) refl refl)
 
 pub low-spec : {M : Type 1} → statement M
 low-spec =
     tie.close
-    (tie.spec
-    Inv-loop
-    μ-loop
-    past-bits-requires
-    loop-holds
-    past-low-requires
-    returns
-    loop-less
-    loop-again
-    returns-2)
+    (tie.spec level-of-requires line-of-requires last-of-requires take-each-requires returns)
