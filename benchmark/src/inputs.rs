@@ -137,9 +137,28 @@ pub fn mixed(length: usize) -> Vec<u8> {
     Master::new(2).recording(length, Master::anything)
 }
 
-/// Each sample of the dense recording so many times.
-pub fn oversampled(times: usize, length: usize) -> Vec<u8> {
-    let once = dense(0, length.div_ceil(times));
+/// The dense recording sampled so many times as often.
+pub fn oversampled(times: f64, length: usize) -> Vec<u8> {
+    let at = |i: usize| (i as f64 / times) as usize;
+    let once = dense(0, at(length) + 1);
+    (0..length).map(|i| once[at(i)]).collect()
+}
+
+/// The dense recording with each sample a number of times at random.
+pub fn uneven(least: usize, most: usize, length: usize) -> Vec<u8> {
+    let mut random = Random::new(6);
+    let once = dense(0, length.div_ceil(least));
+    let mut samples: Vec<u8> = once
+        .iter()
+        .flat_map(|&sample| std::iter::repeat_n(sample, random.between(least, most)))
+        .collect();
+    samples.truncate(length);
+    samples
+}
+
+/// Streaming writes to an older chip, each sample so many times.
+pub fn older_oversampled(times: usize, length: usize) -> Vec<u8> {
+    let once = older(4, 16, length.div_ceil(times));
     let mut samples: Vec<u8> =
         once.iter().flat_map(|&sample| std::iter::repeat_n(sample, times)).collect();
     samples.truncate(length);

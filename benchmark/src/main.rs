@@ -52,6 +52,8 @@ fn check() {
         Recording::mixed(registers, MEBIBYTE + 1).compare();
         println!("ok busread-{registers}: the same text");
     }
+    Recording::four_times(MEBIBYTE + 1).compare();
+    println!("ok busread-four-times: the same text");
 }
 
 fn call(name: &str, side: &str) {

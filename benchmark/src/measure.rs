@@ -26,7 +26,11 @@ pub fn measure() {
         println!("valgrind is not installed: no instruction counts");
     }
     let mut rows: Vec<Row> = works().map(|work| row_of_call(&work, counts)).collect();
-    rows.extend(REGISTERS.map(|registers| row_of_program(registers, counts)));
+    rows.extend(REGISTERS.map(|registers| {
+        let recording = |length| Recording::mixed(registers, length);
+        row_of_program(format!("busread-{registers}"), recording, counts)
+    }));
+    rows.push(row_of_program("busread-four-times".into(), Recording::four_times, counts));
     let tables =
         format!("{}\n{}\n{}\n", table::of_rows(&rows), growth::measure(counts), growth::sigrok());
     println!("\n{tables}");
@@ -53,15 +57,15 @@ fn row_of_call(work: &Work, counts: bool) -> Row {
     Row { name: work.name.into(), limit: work.limit, units: work.units, times, instructions }
 }
 
-fn row_of_program(registers: usize, counts: bool) -> Row {
-    let times = program_times(&Recording::mixed(registers, LONG));
+fn row_of_program(name: String, recording: impl Fn(usize) -> Recording, counts: bool) -> Row {
+    let times = program_times(&recording(LONG));
     let instructions = counts.then(|| {
-        let recording = Recording::mixed(registers, COUNTED);
+        let recording = recording(COUNTED);
         [Side::Proved, Side::Second]
             .map(|side| counting::of_program(side, &recording) as f64 / COUNTED as f64)
     });
     let limit = Limit { most: 1.2, stretch: 1.0 };
-    Row { name: format!("busread-{registers}"), limit, units: LONG, times, instructions }
+    Row { name, limit, units: LONG, times, instructions }
 }
 
 fn program_times(recording: &Recording) -> Times {

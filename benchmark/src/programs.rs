@@ -21,6 +21,12 @@ impl Recording {
         Self::of(&format!("mixed-{registers}-{samples}"), registers, &inputs::mixed(samples))
     }
 
+    /// Dense frames, sampled four times as often.
+    pub fn four_times(samples: usize) -> Self {
+        let name = format!("four-times-{samples}");
+        Self::of(&name, 512, &inputs::oversampled(4.0, samples))
+    }
+
     pub fn of(name: &str, registers: usize, samples: &[u8]) -> Self {
         Self::samples_only(name, &[&inputs::map(registers), samples].concat())
     }

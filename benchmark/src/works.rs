@@ -29,9 +29,33 @@ pub struct Limit {
 }
 
 impl Limit {
-    /// Only looked at.
-    pub const NONE: Limit = Limit { most: f64::INFINITY, stretch: f64::INFINITY };
+    /// Of a row that is to reach this ratio, and may miss it by 0.05.
+    const fn near(goal: f64) -> Limit {
+        Limit { most: goal + 0.05, stretch: goal }
+    }
 }
+
+/// A dense recording sampled more often than its clock: how many times, and the part of the second implementation's time that it is
+/// to be read in.
+const OFTEN: [(&str, f64, f64); 10] = [
+    ("read-1.3-times", 1.3, 0.75),
+    ("read-1.5-times", 1.5, 0.75),
+    ("read-two-times", 2.0, 0.65),
+    ("read-three-times", 3.0, 0.6),
+    ("read-four-times", 4.0, 0.6),
+    ("read-five-times", 5.0, 0.6),
+    ("read-eight-times", 8.0, 0.6),
+    ("read-ten-times", 10.0, 0.5),
+    ("read-sixteen-times", 16.0, 0.5),
+    ("read-32-times", 32.0, 0.5),
+];
+
+/// The same where each level lasts a number of samples at random: the least and the most.
+const UNEVEN: [(&str, usize, usize, f64); 3] = [
+    ("read-uneven-1-2", 1, 2, 0.5),
+    ("read-uneven-3-5", 3, 5, 0.5),
+    ("read-uneven-6-10", 6, 10, 0.5),
+];
 
 /// Of every work of the older chips.
 const OLDER: Limit = Limit { most: 1.2, stretch: 1.0 };
@@ -168,13 +192,11 @@ fn older_order(settings: u64, data: &[u8]) -> Order<'_> {
 }
 
 /// The works of one call each, in the order of the table.
-const NAMES: [&str; 19] = [
+const NAMES: [&str; 18] = [
     "read-dense",
     "read-dense-lsb",
     "read-single",
     "read-mixed",
-    "read-four-times",
-    "read-ten-times",
     "read-random",
     "counted-dense",
     "counted-random",
@@ -185,30 +207,44 @@ const NAMES: [&str; 19] = [
     "map-test",
     "older-dense",
     "older-counted",
+    "older-ten-times",
     "older-random",
     "older-send-msb",
     "older-send-lsb",
 ];
 
 pub fn works() -> impl Iterator<Item = Work> {
-    NAMES.iter().map(|name| work(name).expect("each name has its work"))
+    let often = OFTEN.iter().map(|row| row.0).chain(UNEVEN.iter().map(|row| row.0));
+    let names = NAMES[..4].iter().copied().chain(often).chain(NAMES[4..].iter().copied());
+    names.map(|name| work(name).expect("each name has its work"))
+}
+
+/// The work of this name on a recording sampled more often than its clock.
+fn often(name: &str) -> Option<Work> {
+    let even = OFTEN.iter().find(|row| row.0 == name);
+    let read = |name, goal, samples| Work::read(name, Limit::near(goal), REGISTERS, samples);
+    if let Some(&(name, times, goal)) = even {
+        return Some(read(name, goal, inputs::oversampled(times, SAMPLES)));
+    }
+    let &(name, least, most, goal) = UNEVEN.iter().find(|row| row.0 == name)?;
+    Some(read(name, goal, inputs::uneven(least, most, SAMPLES)))
 }
 
 /// The work of this name.
 pub fn work(name: &str) -> Option<Work> {
+    if let Some(work) = often(name) {
+        return Some(work);
+    }
     let name = *NAMES.iter().find(|known| **known == name)?;
     let frames = Limit { most: 0.9, stretch: 0.7 };
-    let often = Limit { most: 0.8, stretch: 0.4 };
-    let noise = Limit { most: 1.5, stretch: 1.1 };
-    let counted = Limit { most: 2.0, stretch: 1.5 };
+    let noise = Limit { most: 1.5, stretch: 0.75 };
+    let counted = Limit { most: 2.0, stretch: 0.75 };
     let read = |limit, samples| Work::read(name, limit, REGISTERS, samples);
     Some(match name {
         "read-dense" => read(frames, inputs::dense(0, SAMPLES)),
         "read-dense-lsb" => read(frames, inputs::dense(1, SAMPLES)),
         "read-single" => read(frames, inputs::dense(4, SAMPLES)),
         "read-mixed" => read(frames, inputs::mixed(SAMPLES)),
-        "read-four-times" => read(Limit::NONE, inputs::oversampled(4, SAMPLES)),
-        "read-ten-times" => read(often, inputs::oversampled(10, SAMPLES)),
         "read-random" => read(noise, inputs::noise(SAMPLES)),
         "counted-dense" => Work::read_counted(name, counted, inputs::dense(0, SAMPLES)),
         "counted-random" => Work::read_counted(name, counted, inputs::noise(SAMPLES)),
@@ -219,6 +255,7 @@ pub fn work(name: &str) -> Option<Work> {
         "map-test" => Work::test(MOST_REGISTERS),
         "older-dense" => Work::read_older(name, inputs::older(4, 16, SAMPLES)),
         "older-counted" => Work::read_older(name, inputs::older(1, 3, SAMPLES)),
+        "older-ten-times" => Work::read_older(name, inputs::older_oversampled(10, SAMPLES)),
         "older-random" => Work::read_older(name, inputs::noise(SAMPLES)),
         "older-send-msb" => Work::send_older(name, 0),
         "older-send-lsb" => Work::send_older(name, 1),
