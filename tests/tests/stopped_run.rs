@@ -16,7 +16,7 @@ use couplingnut_tests::second::session::{Phase, CSB};
 use couplingnut_tests::second::Answer;
 
 /// Who sends and reads the run.
-enum Side {
+pub(crate) enum Side {
     /// The second implementation, and beside it the library.
     Both,
     /// The library alone.
@@ -24,12 +24,12 @@ enum Side {
 }
 
 impl Side {
-    fn product() -> Self {
+    pub(crate) fn product() -> Self {
         Side::Product(Box::default())
     }
 
     /// The samples of an order that nothing refuses.
-    fn send(&self, order: &Order) -> Vec<u8> {
+    pub(crate) fn send(&self, order: &Order) -> Vec<u8> {
         let Side::Product(_) = self else {
             return sent(order);
         };
@@ -41,7 +41,7 @@ impl Side {
     }
 
     /// The read call, which moves the chip on.
-    fn call(&mut self, chip: &mut Chip, samples: &[u8], records: &mut [u8]) -> Answer {
+    pub(crate) fn call(&mut self, chip: &mut Chip, samples: &[u8], records: &mut [u8]) -> Answer {
         let Side::Product(memory) = self else {
             return chip.call(samples, records);
         };
@@ -57,7 +57,7 @@ impl Side {
 }
 
 /// Reads the samples by a list of calls, refused ones among them.
-fn read_by_calls(random: &mut Random, side: &mut Side, chip: &mut Chip, samples: &[u8]) {
+pub(crate) fn read_by_calls(random: &mut Random, side: &mut Side, chip: &mut Chip, samples: &[u8]) {
     let mut rest = samples;
     while !rest.is_empty() {
         if random.one_in(3) {
@@ -90,7 +90,7 @@ fn refused_call(random: &mut Random, side: &mut Side, chip: &mut Chip, samples: 
 }
 
 /// What the book has before the raise. An order's own last sample is a rise.
-fn before_the_raise(chip: &Chip, order: &Order, all: &[u8], s: usize) -> Kept {
+pub(crate) fn before_the_raise(chip: &Chip, order: &Order, all: &[u8], s: usize) -> Kept {
     if s < all.len() {
         book_before_the_rise(chip, order, s)
     } else {
@@ -98,7 +98,7 @@ fn before_the_raise(chip: &Chip, order: &Order, all: &[u8], s: usize) -> Kept {
     }
 }
 
-fn assert_kept(chip: &Chip, expected: &Kept, order: &Order, s: usize) {
+pub(crate) fn assert_kept(chip: &Chip, expected: &Kept, order: &Order, s: usize) {
     assert_eq!(&kept(chip), expected, "{order:?} at {s}");
 }
 

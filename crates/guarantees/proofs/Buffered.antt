@@ -1,7 +1,7 @@
--- One buffered register through a list of writes that is clear of 0x0000: its active byte changes at a transfer alone, and there
--- it takes its buffer byte.
+-- One buffered register through a list of writes without a soft reset: its active byte changes at a transfer alone, and there it takes its
+-- buffer byte. And what a soft reset leaves.
 use mathlib.Core.Path.{_≡_, refl, ap, sym, _∙_}
-use mathlib.Core.Bool.{Bool, true, false, cond, not, _&&_, _||_, and-assoc, or-false}
+use mathlib.Core.Bool.{Bool, true, false, cond, not, _&&_, _||_, or-false, false≢true}
 use mathlib.Core.List.{List, [], _∷_, _++_}
 use Prim.Native.Nat.{ℕ}
 use native.Mathlib.Omega.{arith}
@@ -15,20 +15,22 @@ use Rattle.chip.specs.declared.Chip.{Chip}
 use Rattle.chip.specs.declared.Chip.the-variants.{Newer, Older}
 use Rattle.chip.specs.Chip.{isNewer, transferPlace}
 use Rattle.regmap.specs.Format.{registerAt, plain, buffered, control}
-use Rattle.maptest.specs.MapTest.{mapNumber}
-use Rattle.maptest.proofs.Laws.{control-transfer}
-use Rattle.settings.specs.Settings.{transfersAt}
-use Rattle.registers.specs.Banks.{Banks, Mapped, transferred}
+use Rattle.maptest.specs.MapTest.{mapNumber, entryGood, kindRule, kindsOf, placeRule}
+use Rattle.maptest.proofs.PlaceKinds.{placed-control}
+use Rattle.maptest.proofs.Laws.{control-transfer, good-count, good-entry}
+use Rattle.card.specs.Card.{isMirror}
+use Rattle.settings.specs.Settings.{resets}
+use Rattle.registers.specs.Banks.{Banks, Mapped, defaultBanks, transferred}
 use Rattle.registers.proofs.Laws.{in-banks, getD-transfer}
 use Rattle.writing.specs.declared.Effect.{Effect}
-use Rattle.writing.specs.declared.Effect.the-variants.{Control, Transfer}
+use Rattle.writing.specs.declared.Effect.the-variants.{Control, Transfer, Reset, Ignored}
 use Rattle.writing.specs.Effect.{controlEffect, effectOf}
 use Rattle.writing.specs.Write.{stagesAt, applied, writeBanks}
-use Rattle.writing.specs.Rise.{movesAtRise, armedBy}
+use Rattle.writing.specs.Rise.{movesAtRise, armedBy, riseBanks}
 use Rattle.writing.proofs.Laws.{mapped-write}
 use Rattle.order.specs.Order.{RunByte}
 use Rattle.guarantees.specs.Book.{writeAll, armedAll, setsAnything, clearOfSettings}
-use Rattle.guarantees.specs.InForce.{isTransfer, anyTransfer, anyBuffered}
+use Rattle.guarantees.specs.InForce.{isTransfer, anyTransfer, isReset, anyReset, ClearOfResets, anyBuffered}
 
 -- the byte in force at an address
 abbrev pub inForce : ℕ → Banks → ℕ
@@ -36,26 +38,43 @@ inForce a b = getD (b .active) a 0
 
 -- ---- one write
 
--- such a write asks for no soft reset, which is a newer chip's 0x0000
-no-reset : (c : Chip) (p : RunByte) → setsAnything c p ≡ false → (isNewer c && eqb (p .address) 0x0000) ≡ false
-no-reset Newer p clear = or-left (eqb (p .address) 0x0000) (eqb (p .address) 0x0001) clear
-no-reset (Older part top) p clear = refl
-
--- clear of the settings, the effect of a write to a control register is a transfer, or changes no bank
-transfer-or-none :
-    (c : Chip) (m : List ℕ) (b : Banks) (p : RunByte) → setsAnything c p ≡ false
-    → applied m b (p .address) (controlEffect c (p .address) (p .byte)) ≡ cond (isTransfer c p) (transferred m b) b
-unfolding applied controlEffect
-transfer-or-none c m b p clear = rw (no-reset c p clear) (by-test (isTransfer c p))
-  where
-    by-test : (t : Bool) → applied m b (p .address) (cond t Transfer Control) ≡ cond t (transferred m b) b
-    by-test true = refl
-    by-test false = refl
-
 -- a transfer is no soft reset either
 not-at-zero : (c : Chip) (a : ℕ) → a ≡ transferPlace c → (isNewer c && eqb a 0x0000) ≡ false
 not-at-zero Newer a e = rw e
 not-at-zero (Older part top) a e = refl
+
+-- and a write to 0x0000 is no transfer
+zero-no-transfer : (c : Chip) (p : RunByte) → (isNewer c && eqb (p .address) 0x0000) ≡ true → isTransfer c p ≡ false
+zero-no-transfer c p z = by (isTransfer c p) refl
+  where
+    by : (t : Bool) → isTransfer c p ≡ t → t ≡ false
+    by true e =
+        let there = eqb-true (p .address) (transferPlace c) (and-left (eqb (p .address) (transferPlace c)) (bitAt (p .byte) 0) e) in
+        absurd (false≢true (sym (not-at-zero c (p .address) there) ∙ z))
+    by false e = refl
+
+-- where no soft reset is asked for, the effect of a write to a control register is a transfer, or changes no bank
+transfer-or-none :
+    (c : Chip) (m : List ℕ) (b : Banks) (p : RunByte) → isReset c p ≡ false
+    → applied m b (p .address) (controlEffect c (p .address) (p .byte)) ≡ cond (isTransfer c p) (transferred m b) b
+unfolding applied controlEffect
+transfer-or-none c m b p calm = by (isNewer c && eqb (p .address) 0x0000) refl
+  where
+    by-transfer : (t : Bool) → applied m b (p .address) (cond t Transfer Control) ≡ cond t (transferred m b) b
+    by-transfer true = refl
+    by-transfer false = refl
+
+    -- at 0x0000: settings, or nothing
+    by-byte : (i r : Bool) → (i && r) ≡ false → applied m b (p .address) (cond i (cond r Reset Control) Ignored) ≡ b
+    by-byte true true q = absurd (false≢true (sym q))
+    by-byte true false q = refl
+    by-byte false r q = refl
+
+    by : (z : Bool) → (isNewer c && eqb (p .address) 0x0000) ≡ z
+        → applied m b (p .address) (cond (isNewer c && eqb (p .address) 0x0000) (cond (isMirror (p .byte)) (cond (resets (p .byte)) Reset Control) Ignored) (cond (isTransfer c p) Transfer Control))
+        ≡ cond (isTransfer c p) (transferred m b) b
+    by true z = rw (z, zero-no-transfer c p z) (by-byte (isMirror (p .byte)) (resets (p .byte)) (rw z at calm))
+    by false z = rw z (by-transfer (isTransfer c p))
 
 -- in a good map the transfer's register is a control register, so a transfer copies the buffer stage
 transfer-write :
@@ -70,13 +89,13 @@ transfer-write c m b p good t =
 module _ (c : Chip) (m : List ℕ) (a : ℕ) (kind : registerAt m a .kind ≡ buffered) where
   -- any other write keeps the byte in force: a plain register stands at another address
   kept-write :
-      (b : Banks) (p : RunByte) → setsAnything c p ≡ false → isTransfer c p ≡ false
+      (b : Banks) (p : RunByte) → isReset c p ≡ false → isTransfer c p ≡ false
       → inForce a (writeBanks c m b (p .address) (p .byte)) ≡ inForce a b
   unfolding writeBanks applied effectOf
-  kept-write b p clear quiet =
+  kept-write b p calm quiet =
       each Kept (eqb there plain) (λ t. getD-set-other (b .active) (p .address) a _ 0 (elsewhere t))
       (λ _. each Kept (eqb there buffered) (λ _. refl)
-      (λ _. each Kept (eqb there control) (λ _. rw (transfer-or-none c m b p clear, quiet))
+      (λ _. each Kept (eqb there control) (λ _. rw (transfer-or-none c m b p calm, quiet))
       (λ _. refl)))
     where
       Kept : Effect → Type 0
@@ -94,11 +113,26 @@ module _ (c : Chip) (m : List ℕ) (a : ℕ) (kind : registerAt m a .kind ≡ bu
 
 -- ---- a list of writes
 
-pub clear-append : (c : Chip) (ps qs : List RunByte) → clearOfSettings c (ps ++ qs) ≡ (clearOfSettings c ps && clearOfSettings c qs)
-unfolding clearOfSettings
-clear-append c [] qs = refl
-clear-append c (p ∷ ps) qs =
-    rw (clear-append c ps qs) (sym (and-assoc (not (setsAnything c p)) (clearOfSettings c ps) (clearOfSettings c qs)))
+reset-append : (c : Chip) (ps qs : List RunByte) → anyReset c (ps ++ qs) ≡ (anyReset c ps || anyReset c qs)
+unfolding anyReset
+reset-append c [] qs = refl
+reset-append c (p ∷ ps) qs = rw (reset-append c ps qs) (sym (or-join (isReset c p) (anyReset c ps) (anyReset c qs)))
+  where
+    or-join : (x y z : Bool) → ((x || y) || z) ≡ (x || (y || z))
+    or-join true y z = refl
+    or-join false y z = refl
+
+-- a run clear of the settings asks for none
+pub clear-of-resets : ClearOfResets
+unfolding clearOfSettings anyReset
+clear-of-resets c [] clear = refl
+clear-of-resets c (p ∷ ps) clear =
+    rw (calm c p (not-true (setsAnything c p) (and-left (not (setsAnything c p)) (clearOfSettings c ps) clear)))
+    (clear-of-resets c ps (and-right (not (setsAnything c p)) (clearOfSettings c ps) clear))
+  where
+    calm : (c : Chip) (p : RunByte) → setsAnything c p ≡ false → isReset c p ≡ false
+    calm Newer p h = rw (or-left (eqb (p .address) 0x0000) (eqb (p .address) 0x0001) h) refl
+    calm (Older part top) p h = refl
 
 write-append : (c : Chip) (m : List ℕ) (ps qs : List RunByte) (b : Banks) → writeAll c m (ps ++ qs) b ≡ writeAll c m qs (writeAll c m ps b)
 unfolding writeAll
@@ -113,55 +147,67 @@ mapped-all c m (p ∷ ps) b h = mapped-all c m ps (writeBanks c m b (p .address)
 module _ (c : Chip) (m : List ℕ) (a : ℕ) (kind : registerAt m a .kind ≡ buffered) where
   -- with no transfer among them, the byte in force stays
   pub kept-all :
-      (ps : List RunByte) (b : Banks) → clearOfSettings c ps ≡ true → anyTransfer c ps ≡ false
+      (ps : List RunByte) (b : Banks) → anyReset c ps ≡ false → anyTransfer c ps ≡ false
       → inForce a (writeAll c m ps b) ≡ inForce a b
-  unfolding writeAll clearOfSettings anyTransfer
-  kept-all [] b clear quiet = refl
-  kept-all (p ∷ ps) b clear quiet =
-      kept-all ps (writeBanks c m b (p .address) (p .byte)) (and-right (not (setsAnything c p)) (clearOfSettings c ps) clear)
+  unfolding writeAll anyReset anyTransfer
+  kept-all [] b calm quiet = refl
+  kept-all (p ∷ ps) b calm quiet =
+      kept-all ps (writeBanks c m b (p .address) (p .byte)) (or-right (isReset c p) (anyReset c ps) calm)
       (or-right (isTransfer c p) (anyTransfer c ps) quiet)
-      ∙ kept-write c m a kind b p (not-true (setsAnything c p) (and-left (not (setsAnything c p)) (clearOfSettings c ps) clear))
+      ∙ kept-write c m a kind b p (or-left (isReset c p) (anyReset c ps) calm)
       (or-left (isTransfer c p) (anyTransfer c ps) quiet)
 
   -- the last transfer puts in force what the buffer stage then held
   pub moved-last :
       (before : List RunByte) (p : RunByte) (later : List RunByte) (b : Banks) → mapNumber c m ≡ 0 → Mapped m b
-      → clearOfSettings c (before ++ (p ∷ later)) ≡ true → isTransfer c p ≡ true → anyTransfer c later ≡ false
+      → anyReset c (before ++ (p ∷ later)) ≡ false → isTransfer c p ≡ true → anyTransfer c later ≡ false
       → inForce a (writeAll c m (before ++ (p ∷ later)) b) ≡ getD (writeAll c m before b .buffer) a 0
-  unfolding writeAll clearOfSettings
-  moved-last before p later b good h clear t quiet =
+  unfolding writeAll anyReset
+  moved-last before p later b good h calm t quiet =
       ap (inForce a) (write-append c m before (p ∷ later) b)
-      ∙ kept-all later (writeBanks c m then (p .address) (p .byte)) clear-later quiet
+      ∙ kept-all later (writeBanks c m then (p .address) (p .byte)) calm-later quiet
       ∙ ap (inForce a) (transfer-write c m then p good t)
       ∙ transferred-at c m a kind then (mapped-all c m before b h)
     where
       then : Banks
       then = writeAll c m before b
 
-      clear-later : clearOfSettings c later ≡ true
-      clear-later =
-          and-right (not (setsAnything c p)) (clearOfSettings c later)
-          (and-right (clearOfSettings c before) (clearOfSettings c (p ∷ later)) (sym (clear-append c before (p ∷ later)) ∙ clear))
+      calm-later : anyReset c later ≡ false
+      calm-later = or-right (isReset c p) (anyReset c later) (or-right (anyReset c before) (anyReset c (p ∷ later)) (sym (reset-append c before (p ∷ later)) ∙ calm))
 
 -- ---- which runs arm a session: one of its bytes goes to a buffered register, and the rise can move bytes
 
-armed-one : (c : Chip) (m : List ℕ) (b : Banks) (armed : Bool) (p : RunByte) → setsAnything c p ≡ false
+armed-one : (c : Chip) (m : List ℕ) (b : Banks) (armed : Bool) (p : RunByte) → isReset c p ≡ false
     → armedBy c m armed (effectOf c (registerAt m (p .address)) (stagesAt b (p .address)) (p .address) (p .byte))
     ≡ (armed || (eqb (registerAt m (p .address) .kind) buffered && movesAtRise c m))
 unfolding armedBy effectOf controlEffect
-armed-one c m b armed p clear = by (eqb kind plain) (eqb kind buffered) (eqb kind control) (isTransfer c p) refl refl refl refl
+armed-one c m b armed p calm = by (eqb kind plain) (eqb kind buffered) (eqb kind control) refl refl refl
   where
     kind : ℕ
     kind = registerAt m (p .address) .kind
 
-    by : (f g h t : Bool) → eqb kind plain ≡ f → eqb kind buffered ≡ g → eqb kind control ≡ h → isTransfer c p ≡ t
+    by-transfer : (t : Bool) → armedBy c m armed (cond t Transfer Control) ≡ armed
+    by-transfer true = refl
+    by-transfer false = refl
+
+    by-byte : (i r : Bool) → (i && r) ≡ false → armedBy c m armed (cond i (cond r Reset Control) Ignored) ≡ armed
+    by-byte true true q = absurd (false≢true (sym q))
+    by-byte true false q = refl
+    by-byte false r q = refl
+
+    controls : (z : Bool) → (isNewer c && eqb (p .address) 0x0000) ≡ z
+        → armedBy c m armed (cond (isNewer c && eqb (p .address) 0x0000) (cond (isMirror (p .byte)) (cond (resets (p .byte)) Reset Control) Ignored) (cond (isTransfer c p) Transfer Control))
+        ≡ armed
+    controls true z = rw z (by-byte (isMirror (p .byte)) (resets (p .byte)) (rw z at calm))
+    controls false z = rw z (by-transfer (isTransfer c p))
+
+    by : (f g h : Bool) → eqb kind plain ≡ f → eqb kind buffered ≡ g → eqb kind control ≡ h
         → armedBy c m armed (effectOf c (registerAt m (p .address)) (stagesAt b (p .address)) (p .address) (p .byte))
         ≡ (armed || (eqb kind buffered && movesAtRise c m))
-    by true g h t ef eg eh et = rw (eqb-true kind plain ef) (sym (or-false armed))
-    by false true h t ef eg eh et = rw (ef, eg) refl
-    by false false true true ef eg eh et = rw (ef, eg, eh, no-reset c p clear, et) (sym (or-false armed))
-    by false false true false ef eg eh et = rw (ef, eg, eh, no-reset c p clear, et) (sym (or-false armed))
-    by false false false t ef eg eh et = rw (ef, eg, eh) (sym (or-false armed))
+    by true g h ef eg eh = rw (eqb-true kind plain ef) (sym (or-false armed))
+    by false true h ef eg eh = rw (ef, eg) refl
+    by false false true ef eg eh = rw (ef, eg, eh) (controls (isNewer c && eqb (p .address) 0x0000) refl ∙ sym (or-false armed))
+    by false false false ef eg eh = rw (ef, eg, eh) (sym (or-false armed))
 
 one-or-later : (k x y z : Bool) → ((k || (x && z)) || (y && z)) ≡ (k || ((x || y) && z))
 one-or-later true x y z = refl
@@ -171,12 +217,49 @@ one-or-later false true false true = refl
 one-or-later false true false false = refl
 one-or-later false false y z = refl
 
-pub armed-all : (c : Chip) (m : List ℕ) (ps : List RunByte) (b : Banks) (armed : Bool) → clearOfSettings c ps ≡ true
+pub armed-all : (c : Chip) (m : List ℕ) (ps : List RunByte) (b : Banks) (armed : Bool) → anyReset c ps ≡ false
     → armedAll c m ps b armed ≡ (armed || (anyBuffered m ps && movesAtRise c m))
-unfolding armedAll clearOfSettings anyBuffered
-armed-all c m [] b armed clear = sym (or-false armed)
-armed-all c m (p ∷ ps) b armed clear =
-    armed-all c m ps (writeBanks c m b (p .address) (p .byte)) _ (and-right (not (setsAnything c p)) (clearOfSettings c ps) clear)
-    ∙ ap (λ (k : Bool). k || (anyBuffered m ps && movesAtRise c m))
-    (armed-one c m b armed p (not-true (setsAnything c p) (and-left (not (setsAnything c p)) (clearOfSettings c ps) clear)))
+unfolding armedAll anyReset anyBuffered
+armed-all c m [] b armed calm = sym (or-false armed)
+armed-all c m (p ∷ ps) b armed calm =
+    armed-all c m ps (writeBanks c m b (p .address) (p .byte)) _ (or-right (isReset c p) (anyReset c ps) calm)
+    ∙ ap (λ (k : Bool). k || (anyBuffered m ps && movesAtRise c m)) (armed-one c m b armed p (or-left (isReset c p) (anyReset c ps) calm))
     ∙ one-or-later armed (eqb (registerAt m (p .address) .kind) buffered) (anyBuffered m ps) (movesAtRise c m)
+
+-- ---- a soft reset forgets what came before it
+
+armed-append : (c : Chip) (m : List ℕ) (ps qs : List RunByte) (b : Banks) (armed : Bool)
+    → armedAll c m (ps ++ qs) b armed ≡ armedAll c m qs (writeAll c m ps b) (armedAll c m ps b armed)
+unfolding armedAll writeAll
+armed-append c m [] qs b armed = refl
+armed-append c m (p ∷ ps) qs b armed = armed-append c m ps qs (writeBanks c m b (p .address) (p .byte)) _
+
+-- in a good map 0x0000 of a newer chip is a control register
+control-zero : (m : List ℕ) → mapNumber Newer m ≡ 0 → registerAt m 0x0000 .kind ≡ control
+unfolding entryGood
+control-zero m good =
+    eqb-true (registerAt m 0x0000 .kind) control
+    (placed-control Newer 0x0000 (registerAt m 0x0000 .kind)
+    (and-right (kindRule (registerAt m 0x0000)) (placeRule (kindsOf Newer) 0x0000 (registerAt m 0x0000 .kind))
+    (good-entry Newer m good 0x0000 (omega (arith, good-count Newer m good)))))
+
+reset-effect : (c : Chip) (m : List ℕ) (b : Banks) (p : RunByte) → mapNumber c m ≡ 0 → isReset c p ≡ true
+    → effectOf c (registerAt m (p .address)) (stagesAt b (p .address)) (p .address) (p .byte) ≡ Reset
+unfolding effectOf controlEffect
+reset-effect (Older part top) m b p good r = absurd (false≢true r)
+reset-effect Newer m b p good r =
+    let zero-place = and-left (eqb (p .address) 0x0000) (isMirror (p .byte) && resets (p .byte)) r in
+    let both = and-right (eqb (p .address) 0x0000) (isMirror (p .byte) && resets (p .byte)) r in
+    let kind : registerAt m (p .address) .kind ≡ control = ap (λ (a : ℕ). registerAt m a .kind) (eqb-true (p .address) 0x0000 zero-place) ∙ control-zero m good in
+    rw (kind, zero-place, and-left (isMirror (p .byte)) (resets (p .byte)) both, and-right (isMirror (p .byte)) (resets (p .byte)) both) refl
+
+pub after-whole-reset : (c : Chip) (m : List ℕ) (before : List RunByte) (p : RunByte) (later : List RunByte) (b : Banks) → mapNumber c m ≡ 0 → isReset c p ≡ true
+    → riseBanks c m (armedAll c m (before ++ (p ∷ later)) b false) (writeAll c m (before ++ (p ∷ later)) b)
+    ≡ riseBanks c m (armedAll c m later (defaultBanks m) false) (writeAll c m later (defaultBanks m))
+unfolding writeAll armedAll writeBanks applied armedBy
+after-whole-reset c m before p later b good r =
+    let then = writeAll c m before b in
+    let e = reset-effect c m then p good r in
+    ap (λ (k : Bool). riseBanks c m k (writeAll c m (before ++ (p ∷ later)) b)) (armed-append c m before (p ∷ later) b false)
+    ∙ ap (riseBanks c m (armedAll c m (p ∷ later) then (armedAll c m before b false))) (write-append c m before (p ∷ later) b)
+    ∙ rw e refl

@@ -14,6 +14,7 @@ use Rattle.run.specs.Reading.{World, worldAfter, runOf, recordsOf, recordCount}
 use Rattle.refusals.specs.Numbers.{readNumber}
 use Rattle.reader.specs.Calls.{readOf}
 use Rattle.guarantees.specs.Calls.{Call, outcomeOf, isDone, afterCalls, joined}
+use Rattle.guarantees.specs.Touched.{recordedBy}
 
 pub run-append : (c : Chip) (m : List ℕ) (w : World) (xs ys : List ℕ) → runOf c m w (xs ++ ys) ≡ runOf c m (runOf c m w xs) ys
 unfolding runOf
@@ -56,3 +57,18 @@ calls-run c m w (call ∷ more) =
     calls-run c m (outcomeOf c m w call .world) more
     ∙ ap (λ (v : World). runOf c m v (joined c m (outcomeOf c m w call .world) more)) (call-run c m w call)
     ∙ sym (run-append c m w (taken c m w call) (joined c m (outcomeOf c m w call .world) more))
+
+records-taken : (c : Chip) (m : List ℕ) (w : World) (done : Bool) (xs : List ℕ) → cond done (recordsOf c m w xs) [] ≡ recordsOf c m w (cond done xs [])
+unfolding recordsOf
+records-taken c m w true xs = refl
+records-taken c m w false xs = refl
+
+pub calls-records : (c : Chip) (m : List ℕ) (w : World) (calls : List Call) → recordedBy c m w calls ≡ recordsOf c m w (joined c m w calls)
+unfolding recordedBy joined recordsOf
+calls-records c m w [] = refl
+calls-records c m w (call ∷ more) =
+    let later = joined c m (outcomeOf c m w call .world) more in
+    ap (λ (r : List ℕ). cond (isDone c m w call) (recordsOf c m w (call .samples)) [] ++ r) (calls-records c m (outcomeOf c m w call .world) more)
+    ∙ ap (λ (r : List ℕ). r ++ recordsOf c m (outcomeOf c m w call .world) later) (records-taken c m w (isDone c m w call) (call .samples))
+    ∙ ap (λ (v : World). recordsOf c m w (taken c m w call) ++ recordsOf c m v later) (call-run c m w call)
+    ∙ sym (records-append c m w (taken c m w call) later)

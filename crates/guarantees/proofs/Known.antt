@@ -15,6 +15,7 @@ use Rattle.maptest.proofs.Laws.{good-length, good-form}
 use Rattle.chip.specs.declared.Chip.the-variants.{Newer}
 use Rattle.settings.specs.Settings.{newerAfter, newerReading}
 use Rattle.session.specs.Step.{entered, withInstructionBit, withDataBit, stepOf}
+use Rattle.session.specs.State.{soundPort, soundSession}
 use Rattle.session.specs.Event.{bitEvent, endEvent, eventOf}
 use Rattle.registers.specs.Banks.{defaultsFrom, defaultBanks, transferFrom, transferred}
 use Rattle.registers.specs.Read.{dueByte}
@@ -24,6 +25,7 @@ use Rattle.writing.specs.Rise.{armedBy, riseBanks}
 use Rattle.records.specs.Records.{recordOf}
 use Rattle.records.specs.BanksAfter.{banksAfter, armedAfter, touchedAfter}
 use Rattle.run.specs.Reading.{runOf, recordsOf}
+use Rattle.refusals.specs.Numbers.{samplesGood, readNumber}
 use Rattle.order.specs.Order.{runFrom}
 use Rattle.order.specs.Number.{configuresEarly, sendNumber}
 use Rattle.order.specs.Samples.{highFirst, lowFirst, bitsOf, byteBits, runBits, orderBits, clocked, samplesOf, allSamples}
@@ -44,7 +46,7 @@ pub known-results : KnownResults
 unfolding bitAt merged every turned isMirror countOf headOf entryAt kindRule placeRule entryGood entriesGood mapNumber
     newerAfter newerReading entered withInstructionBit withDataBit stepOf bitEvent endEvent eventOf
     defaultsFrom defaultBanks transferFrom transferred controlEffect effectOf applied writeBanks writtenBy dueByte recordOf banksAfter armedAfter touchedAfter armedBy riseBanks runOf recordsOf
-    runFrom highFirst lowFirst bitsOf byteBits runBits orderBits clocked samplesOf allSamples configuresEarly sendNumber
+    runFrom highFirst lowFirst bitsOf byteBits runBits orderBits clocked samplesOf allSamples configuresEarly sendNumber soundPort soundSession samplesGood readNumber
 known-results = record {
   maps-16 = record { good = refl; in-version = refl; registers = refl; lengths = lengths-of 1 16 };
   maps-8192 = record { good = good-8192; in-version = refl; registers = refl; lengths = lengths-of 1 8192 };
@@ -72,6 +74,9 @@ known-results = record {
   rise-records = refl;
   rise-cut-moves = refl;
   rise-cut-records = refl;
+  again-same-clock = refl;
+  again-other-clock = refl;
+  again-spare-bit = refl;
   thousand = record { taken = refl; given = length-samples Newer (writeThousand 2) };
   thousand-single = record { taken = refl; given = length-samples Newer (writeThousand 6) };
 }

@@ -16,6 +16,7 @@ pub mod Lists
 pub mod Orders
 pub mod Pieces
 pub mod ReadBack
+pub mod Repeated
 pub mod Runs
 pub mod SameMap
 pub mod SetupReadBack

@@ -6,17 +6,18 @@ use mathlib.Core.List.{List, [], _∷_, _++_}
 use lib.Dec.{eqb}
 use lib.ListN.{length, getD, take}
 use Rattle.sizes.specs.Sizes.{recordSize}
-use Rattle.regmap.specs.declared.Entry.{Entry}
 use Rattle.regmap.specs.Format.{registerAt, buffered}
 use Rattle.chip.specs.declared.Chip.{Chip}
-use Rattle.settings.specs.Settings.{transfersAt}
-use Rattle.registers.specs.Banks.{Banks}
-use Rattle.writing.specs.Rise.{movesAtRise}
+use Rattle.chip.specs.Chip.{isNewer}
+use Rattle.card.specs.Card.{isMirror}
+use Rattle.settings.specs.Settings.{resets, transfersAt}
+use Rattle.registers.specs.Banks.{defaultBanks}
+use Rattle.writing.specs.Rise.{movesAtRise, riseBanks}
 use Rattle.run.specs.Reading.{World, recordCount}
 use Rattle.order.specs.Order.{Order, RunByte}
 use Rattle.order.specs.Samples.{samplesOf}
 use Rattle.guarantees.specs.Calls.{Call, isDone, afterCalls, joined}
-use Rattle.guarantees.specs.Book.{wholeBytes, wholeRun, writeAll}
+use Rattle.guarantees.specs.Book.{wholeBytes, wholeRun, writeAll, armedAll, clearOfSettings}
 use Rattle.guarantees.specs.StoppedRun.{Run, stoppedSamples}
 
 -- Document 01, "The stopped run": a transfer is 0x000F written with bit 0 set. Document 02, Ask 1: 0x0005 is it on an older chip.
@@ -26,6 +27,18 @@ isTransfer c p = transfersAt c (p .address) (p .byte)
 unfoldable pub anyTransfer : Chip → List RunByte → Bool
 anyTransfer c [] = false
 anyTransfer c (p ∷ ps) = isTransfer c p || anyTransfer c ps
+
+-- Document 02, Ask 11: a soft reset is a byte to 0x0000 of a newer chip with bit 7 set; Ask 2: it is its own mirror.
+abbrev pub isReset : Chip → RunByte → Bool
+isReset c p = (isNewer c && eqb (p .address) 0x0000) && (isMirror (p .byte) && resets (p .byte))
+
+unfoldable pub anyReset : Chip → List RunByte → Bool
+anyReset c [] = false
+anyReset c (p ∷ ps) = isReset c p || anyReset c ps
+
+-- There is none in a run clear of the settings, as document 01 has it.
+abbrev pub ClearOfResets : Type 0
+ClearOfResets = (c : Chip) (ps : List RunByte) → clearOfSettings c ps ≡ true → anyReset c ps ≡ false
 
 -- Document 02, Ask 4: some byte goes to a buffered register
 unfoldable pub anyBuffered : List ℕ → List RunByte → Bool
@@ -41,10 +54,11 @@ pub data Unmoved (c : Chip) (m : List ℕ) (w : World) (o : Order) (s raise : �
   unraised : s < length (samplesOf c o) → joined c m w calls ≡ take s (samplesOf c o) → Unmoved c m w o s raise calls
   still : movesAfter c m o s ≡ false → joined c m w calls ≡ stoppedSamples c o s raise → Unmoved c m w o s raise calls
 
--- such a list, and a buffered register of the map
+-- such a list, with no soft reset whole, and a buffered register of the map
 pub record Stopped (c : Chip) (m : List ℕ) (w : World) (o : Order) (room s raise : ℕ) (calls : List Call) (a : ℕ) : Type 0 where
   pub run : Run c m w o room raise
   pub read : Unmoved c m w o s raise calls
+  pub no-reset : anyReset c (wholeRun c o s) ≡ false
   pub kind : registerAt m a .kind ≡ buffered
 
 -- A buffered register keeps what was in force while no transfer has been whole.
@@ -70,8 +84,19 @@ InForceAtRaise =
     (c : Chip) (m : List ℕ) (w : World) (o : Order) (room s raise : ℕ) (calls : List Call) (a : ℕ)
     → Run c m w o room raise
     → joined c m w calls ≡ stoppedSamples c o s raise → registerAt m a .kind ≡ buffered
-    → movesAfter c m o s ≡ true
+    → anyReset c (wholeRun c o s) ≡ false → movesAfter c m o s ≡ true
     → getD (afterCalls c m w calls .banks .active) a 0 ≡ getD (writeAll c m (wholeRun c o s) (w .banks) .buffer) a 0
+
+-- Document 02, Ask 11: a soft reset written whole also puts the defaults of buffered registers in force, with no transfer. The bytes behind it
+-- are written to the defaults, and they alone count for the rise.
+abbrev pub AfterReset : Type 0
+AfterReset =
+    (c : Chip) (m : List ℕ) (w : World) (o : Order) (room s raise : ℕ) (calls : List Call)
+    (before : List RunByte) (reset : RunByte) (later : List RunByte)
+    → Run c m w o room raise
+    → joined c m w calls ≡ stoppedSamples c o s raise
+    → wholeRun c o s ≡ before ++ (reset ∷ later) → isReset c reset ≡ true
+    → afterCalls c m w calls .banks ≡ riseBanks c m (armedAll c m later (defaultBanks m) false) (writeAll c m later (defaultBanks m))
 
 -- A broken byte changes nothing: stopped inside a byte, or where the bytes before it had just become whole, both stages are the same.
 abbrev pub BrokenByte : Type 0

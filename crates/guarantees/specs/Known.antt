@@ -3,7 +3,7 @@ use Prim.Native.Nat.{ℕ, zero, suc, _+_, _*_}
 use mathlib.Core.Path.{_≡_}
 use mathlib.Core.Bool.{Bool, true, false}
 use mathlib.Core.List.{List, [], _∷_, _++_}
-use lib.ListN.{length, replicate, getD, take}
+use lib.ListN.{length, replicate, getD, take, drop}
 use Rattle.bits.specs.Bits.{merged}
 use Rattle.chip.specs.declared.Chip.the-variants.{Newer}
 use Rattle.regmap.specs.Format.{lengthOf, versionOf, countOf}
@@ -14,6 +14,7 @@ use Rattle.soundness.specs.Opened.{openedSession}
 use Rattle.registers.specs.Banks.{defaultBanks}
 use Rattle.registers.specs.Read.{dueByte}
 use Rattle.run.specs.Reading.{World, runOf, recordsOf}
+use Rattle.refusals.specs.Numbers.{readNumber}
 use Rattle.order.specs.Order.{Order}
 use Rattle.order.specs.Samples.{orderBits, samplesOf, allSamples}
 use Rattle.order.specs.Number.{sendNumber}
@@ -76,6 +77,10 @@ due10 w = dueByte Newer map17 (w .banks) (w .session .port .settings) 0x0010
 abbrev pub inForce10 : List ℕ → ℕ
 inForce10 xs = getD (runOf Newer map17Flagged (opened map17Flagged) xs .banks .active) 0x0010 0
 
+-- the write of 0x3C to 0x000A with a sample put in behind its first one, which is 0x00
+abbrev pub withSecond : ℕ → List ℕ
+withSecond y = 0x00 ∷ y ∷ drop 1 (samplesOf Newer (writeOne 0 0x000A 0x3C))
+
 abbrev pub bitsOfDigits : List ℕ → List Bool
 bitsOfDigits [] = []
 bitsOfDigits (zero ∷ ds) = false ∷ bitsOfDigits ds
@@ -134,6 +139,10 @@ pub record KnownResults : Type 0 where
   pub rise-cut-moves : inForce10 (stoppedSamples Newer writeTwo 53 0x01) ≡ 0x22
   pub rise-cut-records : recordsAfterOpening map17Flagged (stoppedSamples Newer writeTwo 53 0x01)
       ≡ 1 ∷ 0x00 ∷ 0x10 ∷ 0x22 ∷ 0x22 ∷ 2 ∷ 0x33 ∷ 3 ∷ 0x00 ∷ 0x0F ∷ 0x02 ∷ 0x01 ∷ 0 ∷ 0x00 ∷ []
+  -- document 02, Ask 11: SDIO and SDO of a sample put in may differ; with another SCLK it is a bit more, and with a spare bit it is refused
+  pub again-same-clock : recordsAfterOpening map16 (withSecond 0x0C) ≡ 1 ∷ 0x00 ∷ 0x0A ∷ 0x3C ∷ 0x3C ∷ 1 ∷ 0x3C ∷ []
+  pub again-other-clock : recordsAfterOpening map16 (withSecond 0x02) ≡ 1 ∷ 0x00 ∷ 0x05 ∷ 0x1E ∷ 0x00 ∷ 0 ∷ 0x00 ∷ 3 ∷ 0x00 ∷ 0x04 ∷ 0x01 ∷ 0x01 ∷ 0 ∷ 0x00 ∷ []
+  pub again-spare-bit : readNumber Newer map16 (opened map16) (withSecond 0x10) 7 ≡ 5
   -- k = 1,000: 16,035 samples, or 48,003
   pub thousand : Sends (writeThousand 2) 16035
   pub thousand-single : Sends (writeThousand 6) 48003

@@ -6,6 +6,7 @@ pub mod InForce
 pub mod Known
 pub mod KnownOlder
 pub mod ReadBack
+pub mod Repeated
 pub mod SameMap
 pub mod SetupReadBack
 pub mod StoppedRun

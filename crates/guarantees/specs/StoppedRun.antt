@@ -13,19 +13,18 @@ use Rattle.session.specs.declared.Session.{Session}
 use Rattle.session.specs.State.{resting, mayStall}
 use Rattle.session.specs.Step.{csbOf}
 use Rattle.run.specs.Reading.{World}
-use Rattle.order.specs.Order.{Order, isRead, runBytes}
+use Rattle.order.specs.Order.{Order, isRead}
 use Rattle.order.specs.Samples.{samplesOf}
 use Rattle.guarantees.specs.AtRest.{AtRest, Accepted}
 use Rattle.guarantees.specs.Calls.{Call, afterCalls, joined}
-use Rattle.guarantees.specs.Book.{wholeRun, writeAll, bookOf, touchedBook, clearOfSettings}
+use Rattle.guarantees.specs.Book.{wholeRun, writeAll, bookOf, touchedBook}
 
--- A write run clear of 0x0000 and 0x0001, or 0x0004 on an older chip, that the sender accepts, for a session at rest, and a sample that
--- raises the select.
+-- A write run that the sender accepts, for a session at rest, and a sample that raises the select. Document 01 asks for runs clear of 0x0000
+-- and 0x0001; document 02, Ask 11: they may pass through them, also where they wrap, and through 0x0000 and 0x0004 of an older chip.
 pub record Run (c : Chip) (m : List ℕ) (w : World) (o : Order) (room raise : ℕ) : Type 0 where
   pub start : AtRest c m w o
   pub accepted : Accepted c o room
   pub write : isRead o ≡ false
-  pub clear : clearOfSettings c (runBytes c o) ≡ true
   pub sample : raise < 16
   pub raised : csbOf raise ≡ true
 

@@ -302,7 +302,7 @@ impl Chain {
 }
 
 /// What a master sends, or a frame that goes on and on, or no sense at all.
-fn any_trace(random: &mut Random, older: Option<Older>, map: &[u8], length: usize) -> Vec<u8> {
+pub fn any_trace(random: &mut Random, older: Option<Older>, map: &[u8], length: usize) -> Vec<u8> {
     match (random.below(8), older) {
         (0, _) => noise(random, length),
         (1 | 2, _) => clocks(random, length),

@@ -9,6 +9,7 @@ pub mod mends;
 pub mod older;
 pub mod orders;
 pub mod random;
+pub mod repeats;
 pub mod sessions;
 pub mod setups;
 pub mod traces;

@@ -46,3 +46,38 @@ pub fn any_write(random: &mut Random) -> (u64, u64, Vec<u8>) {
         }
     }
 }
+
+/// Settings number, start and data of a streaming write that passes through 0x0000 or
+/// 0x0001: down from the registers of a map and on from 0x7FFF, or up across 0x7FFF
+/// and on into them.
+pub fn write_through_settings(random: &mut Random) -> (u64, u64, Vec<u8>) {
+    let settings = random.below(4) as u64;
+    let through = random.below(2);
+    let outside = random.below(5);
+    let most = random.pick(&[5, 32]);
+    let inside = random.below(most);
+    let (start, step) = match settings & 2 {
+        0 => (through + inside, 0x7FFF),
+        _ => (through + 0x8000 - outside, 1),
+    };
+    let address = |i: usize| (start + i * step) % 0x8000;
+    let data = (0..=inside + outside).map(|i| byte_for(random, address(i))).collect();
+    (settings, address(0) as u64, data)
+}
+
+/// A byte for this register: for 0x0000 a soft reset, another byte that is its own
+/// mirror, or one that is not.
+fn byte_for(random: &mut Random, address: usize) -> u8 {
+    let nibble = random.byte() & 0x0F;
+    match (address, random.below(4)) {
+        (0x0000, 0 | 1) => mirrored(nibble | 1),
+        (0x0000, 2) => mirrored(nibble & 0x0E),
+        (0x0000, _) => random.pick(&[0x80, 0x01, 0x40, 0x82, 0x70 | nibble]),
+        _ => random.byte(),
+    }
+}
+
+/// The byte with this low nibble that is its own mirror.
+pub fn mirrored(nibble: u8) -> u8 {
+    nibble | nibble.reverse_bits()
+}

@@ -61,3 +61,22 @@ pub fn older_addresses(order: &Order) -> Vec<u64> {
     };
     (0..order.count.min(1_000)).map(step).collect()
 }
+
+/// Start and data of a write that passes through 0x0000 or 0x0004, mostly a streaming
+/// one: down to 0 at the furthest, or up from there.
+pub fn older_write_through_settings(
+    random: &mut Random,
+    settings: u64,
+    top: u64,
+) -> (u64, Vec<u8>) {
+    let through = random.pick(&[0x0000, 0x0004]);
+    let lowest = through - random.below(through + 1);
+    let most = random.pick(&[3, 9, 9, 14]);
+    let highest = (through + random.below(most)).min(top as usize);
+    let start = if settings == 1 { lowest } else { highest };
+    let mut data = random.bytes(highest - lowest + 1);
+    for v in &mut data {
+        *v = if random.one_in(3) { random.pick(&[0x00, 0x01, 0x40, 0x81, 0xC3]) } else { *v };
+    }
+    (start as u64, data)
+}
