@@ -25,7 +25,7 @@ use Rattle.registers.proofs.Laws.{in-banks, getD-transfer}
 use Rattle.writing.specs.declared.Effect.{Effect}
 use Rattle.writing.specs.declared.Effect.the-variants.{Control, Transfer, Reset, Ignored}
 use Rattle.writing.specs.Effect.{controlEffect, effectOf}
-use Rattle.writing.specs.Write.{stagesAt, applied, writeBanks}
+use Rattle.writing.specs.Write.{effectAt, applied, writeBanks}
 use Rattle.writing.specs.Rise.{movesAtRise, armedBy, riseBanks}
 use Rattle.writing.proofs.Laws.{mapped-write}
 use Rattle.order.specs.Order.{RunByte}
@@ -53,28 +53,18 @@ zero-no-transfer c p z = by (isTransfer c p) refl
         absurd (false≢true (sym (not-at-zero c (p .address) there) ∙ z))
     by false e = refl
 
--- where no soft reset is asked for, the effect of a write to a control register is a transfer, or changes no bank
-transfer-or-none :
-    (c : Chip) (m : List ℕ) (b : Banks) (p : RunByte) → isReset c p ≡ false
-    → applied m b (p .address) (controlEffect c (p .address) (p .byte)) ≡ cond (isTransfer c p) (transferred m b) b
-unfolding applied controlEffect
-transfer-or-none c m b p calm = by (isNewer c && eqb (p .address) 0x0000) refl
-  where
-    by-transfer : (t : Bool) → applied m b (p .address) (cond t Transfer Control) ≡ cond t (transferred m b) b
-    by-transfer true = refl
-    by-transfer false = refl
-
-    -- at 0x0000: settings, or nothing
-    by-byte : (i r : Bool) → (i && r) ≡ false → applied m b (p .address) (cond i (cond r Reset Control) Ignored) ≡ b
-    by-byte true true q = absurd (false≢true (sym q))
-    by-byte true false q = refl
-    by-byte false r q = refl
-
-    by : (z : Bool) → (isNewer c && eqb (p .address) 0x0000) ≡ z
-        → applied m b (p .address) (cond (isNewer c && eqb (p .address) 0x0000) (cond (isMirror (p .byte)) (cond (resets (p .byte)) Reset Control) Ignored) (cond (isTransfer c p) Transfer Control))
-        ≡ cond (isTransfer c p) (transferred m b) b
-    by true z = rw (z, zero-no-transfer c p z) (by-byte (isMirror (p .byte)) (resets (p .byte)) (rw z at calm))
-    by false z = rw z (by-transfer (isTransfer c p))
+-- where no soft reset is asked for, a write to a control register is a transfer; or it sets something, or is ignored
+no-reset-effect :
+    (P : Effect → Type 0) (c : Chip) (p : RunByte) → isReset c p ≡ false
+    → (isTransfer c p ≡ true → P Transfer) → (isTransfer c p ≡ false → P Control × P Ignored)
+    → P (controlEffect c (p .address) (p .byte))
+unfolding controlEffect
+no-reset-effect P c p calm moves other =
+    each P (isNewer c && eqb (p .address) 0x0000)
+    (λ z. each P (isMirror (p .byte))
+    (λ i. each P (resets (p .byte)) (λ r. absurd (false≢true (sym (rw (z, i, r) at calm)))) (λ r. other (zero-no-transfer c p z) .0))
+    (λ i. other (zero-no-transfer c p z) .1))
+    (λ z. each P (isTransfer c p) moves (λ t. other t .0))
 
 -- in a good map the transfer's register is a control register, so a transfer copies the buffer stage
 transfer-write :
@@ -95,7 +85,7 @@ module _ (c : Chip) (m : List ℕ) (a : ℕ) (kind : registerAt m a .kind ≡ bu
   kept-write b p calm quiet =
       each Kept (eqb there plain) (λ t. getD-set-other (b .active) (p .address) a _ 0 (elsewhere t))
       (λ _. each Kept (eqb there buffered) (λ _. refl)
-      (λ _. each Kept (eqb there control) (λ _. rw (transfer-or-none c m b p calm, quiet))
+      (λ _. each Kept (eqb there control) (λ _. no-reset-effect Kept c p calm (λ t. absurd (false≢true (sym quiet ∙ t))) (λ _. (refl, refl)))
       (λ _. refl)))
     where
       Kept : Effect → Type 0
@@ -178,35 +168,23 @@ module _ (c : Chip) (m : List ℕ) (a : ℕ) (kind : registerAt m a .kind ≡ bu
 -- ---- which runs arm a session: one of its bytes goes to a buffered register, and the rise can move bytes
 
 armed-one : (c : Chip) (m : List ℕ) (b : Banks) (armed : Bool) (p : RunByte) → isReset c p ≡ false
-    → armedBy c m armed (effectOf c (registerAt m (p .address)) (stagesAt b (p .address)) (p .address) (p .byte))
+    → armedBy c m armed (effectAt c m b (p .address) (p .byte))
     ≡ (armed || (eqb (registerAt m (p .address) .kind) buffered && movesAtRise c m))
-unfolding armedBy effectOf controlEffect
+unfolding armedBy effectOf
 armed-one c m b armed p calm = by (eqb kind plain) (eqb kind buffered) (eqb kind control) refl refl refl
   where
     kind : ℕ
     kind = registerAt m (p .address) .kind
 
-    by-transfer : (t : Bool) → armedBy c m armed (cond t Transfer Control) ≡ armed
-    by-transfer true = refl
-    by-transfer false = refl
-
-    by-byte : (i r : Bool) → (i && r) ≡ false → armedBy c m armed (cond i (cond r Reset Control) Ignored) ≡ armed
-    by-byte true true q = absurd (false≢true (sym q))
-    by-byte true false q = refl
-    by-byte false r q = refl
-
-    controls : (z : Bool) → (isNewer c && eqb (p .address) 0x0000) ≡ z
-        → armedBy c m armed (cond (isNewer c && eqb (p .address) 0x0000) (cond (isMirror (p .byte)) (cond (resets (p .byte)) Reset Control) Ignored) (cond (isTransfer c p) Transfer Control))
-        ≡ armed
-    controls true z = rw z (by-byte (isMirror (p .byte)) (resets (p .byte)) (rw z at calm))
-    controls false z = rw z (by-transfer (isTransfer c p))
+    controls : armedBy c m armed (controlEffect c (p .address) (p .byte)) ≡ armed
+    controls = no-reset-effect (λ (e : Effect). armedBy c m armed e ≡ armed) c p calm (λ _. refl) (λ _. (refl, refl))
 
     by : (f g h : Bool) → eqb kind plain ≡ f → eqb kind buffered ≡ g → eqb kind control ≡ h
-        → armedBy c m armed (effectOf c (registerAt m (p .address)) (stagesAt b (p .address)) (p .address) (p .byte))
+        → armedBy c m armed (effectAt c m b (p .address) (p .byte))
         ≡ (armed || (eqb kind buffered && movesAtRise c m))
     by true g h ef eg eh = rw (eqb-true kind plain ef) (sym (or-false armed))
     by false true h ef eg eh = rw (ef, eg) refl
-    by false false true ef eg eh = rw (ef, eg, eh) (controls (isNewer c && eqb (p .address) 0x0000) refl ∙ sym (or-false armed))
+    by false false true ef eg eh = rw (ef, eg, eh) (controls ∙ sym (or-false armed))
     by false false false ef eg eh = rw (ef, eg, eh) (sym (or-false armed))
 
 one-or-later : (k x y z : Bool) → ((k || (x && z)) || (y && z)) ≡ (k || ((x || y) && z))
@@ -244,7 +222,7 @@ control-zero m good =
     (good-entry Newer m good 0x0000 (omega (arith, good-count Newer m good)))))
 
 reset-effect : (c : Chip) (m : List ℕ) (b : Banks) (p : RunByte) → mapNumber c m ≡ 0 → isReset c p ≡ true
-    → effectOf c (registerAt m (p .address)) (stagesAt b (p .address)) (p .address) (p .byte) ≡ Reset
+    → effectAt c m b (p .address) (p .byte) ≡ Reset
 unfolding effectOf controlEffect
 reset-effect (Older part top) m b p good r = absurd (false≢true r)
 reset-effect Newer m b p good r =
