@@ -40,7 +40,7 @@ pub fn of_rows(rows: &[Row]) -> String {
 
 fn limit(ratio: f64) -> String {
     if ratio.is_finite() {
-        format!("{ratio:.1}")
+        format!("{ratio:.2}")
     } else {
         "-".into()
     }

@@ -15,9 +15,8 @@ use Rattle.chip.specs.declared.Chip.{Chip}
 use Rattle.chip.specs.declared.Chip.the-variants.{Newer, Older}
 use Rattle.chip.specs.Chip.{isNewer, transferPlace}
 use Rattle.regmap.specs.Format.{registerAt, plain, buffered, control}
-use Rattle.maptest.specs.MapTest.{mapNumber, entryGood, kindRule, kindsOf, placeRule}
-use Rattle.maptest.proofs.PlaceKinds.{placed-control}
-use Rattle.maptest.proofs.Laws.{control-transfer, good-count, good-entry}
+use Rattle.maptest.specs.MapTest.{mapNumber}
+use Rattle.maptest.proofs.Laws.{control-at, control-transfer}
 use Rattle.card.specs.Card.{isMirror}
 use Rattle.settings.specs.Settings.{resets}
 use Rattle.registers.specs.Banks.{Banks, Mapped, defaultBanks, transferred}
@@ -213,14 +212,6 @@ armed-append c m [] qs b armed = refl
 armed-append c m (p ∷ ps) qs b armed = armed-append c m ps qs (writeBanks c m b (p .address) (p .byte)) _
 
 -- in a good map 0x0000 of a newer chip is a control register
-control-zero : (m : List ℕ) → mapNumber Newer m ≡ 0 → registerAt m 0x0000 .kind ≡ control
-unfolding entryGood
-control-zero m good =
-    eqb-true (registerAt m 0x0000 .kind) control
-    (placed-control Newer 0x0000 (registerAt m 0x0000 .kind)
-    (and-right (kindRule (registerAt m 0x0000)) (placeRule (kindsOf Newer) 0x0000 (registerAt m 0x0000 .kind))
-    (good-entry Newer m good 0x0000 (omega (arith, good-count Newer m good)))))
-
 reset-effect : (c : Chip) (m : List ℕ) (b : Banks) (p : RunByte) → mapNumber c m ≡ 0 → isReset c p ≡ true
     → effectAt c m b (p .address) (p .byte) ≡ Reset
 unfolding effectOf controlEffect
@@ -228,7 +219,7 @@ reset-effect (Older part top) m b p good r = absurd (false≢true r)
 reset-effect Newer m b p good r =
     let zero-place = and-left (eqb (p .address) 0x0000) (isMirror (p .byte) && resets (p .byte)) r in
     let both = and-right (eqb (p .address) 0x0000) (isMirror (p .byte) && resets (p .byte)) r in
-    let kind : registerAt m (p .address) .kind ≡ control = ap (λ (a : ℕ). registerAt m a .kind) (eqb-true (p .address) 0x0000 zero-place) ∙ control-zero m good in
+    let kind : registerAt m (p .address) .kind ≡ control = ap (λ (a : ℕ). registerAt m a .kind) (eqb-true (p .address) 0x0000 zero-place) ∙ control-at Newer m good 0x0000 (omega arith) refl in
     rw (kind, zero-place, and-left (isMirror (p .byte)) (resets (p .byte)) both, and-right (isMirror (p .byte)) (resets (p .byte)) both) refl
 
 pub after-whole-reset : (c : Chip) (m : List ℕ) (before : List RunByte) (p : RunByte) (later : List RunByte) (b : Banks) → mapNumber c m ≡ 0 → isReset c p ≡ true

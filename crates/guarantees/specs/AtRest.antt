@@ -21,10 +21,10 @@ use Rattle.order.specs.Number.{sendNumber}
 abbrev pub countingOf : Chip → World → InUse
 countingOf c w = counting c (inUseOf (w .session .port .settings))
 
--- Document 01, "Registers and session": a session at rest is sound and comes with a good map, banks of n bytes and, document 02,
--- Ask 7, as many words as that takes; the same
--- settings means that those an order can name agree with it, the others being at will. Document 02, Ask 1: for an older chip the top is
--- n less 1; its orders name the bit order alone, and that is then the direction. A run that stalls, or is passed over, is not at rest.
+-- Document 01, "Registers and session": a session at rest is sound and comes with a good map, banks of n bytes and, document 02, Ask 7, as
+-- many words as that takes; the same settings means that those an order can name agree with it, the others being at will. Document 02, Ask 1:
+-- for an older chip the top is n less 1; its orders name the bit order alone, and that is then the direction. A run that stalls, or is passed
+-- over, is not at rest.
 pub record AtRest (c : Chip) (m : List ℕ) (w : World) (o : Order) : Type 0 where
   pub good-map : mapNumber c m ≡ 0
   pub top : topFits c m ≡ true

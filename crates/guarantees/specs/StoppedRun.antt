@@ -50,8 +50,8 @@ BeforeRaise =
     → s < length (samplesOf c o) → joined c m w calls ≡ take s (samplesOf c o)
     → afterCalls c m w calls .banks ≡ writeAll c m (wholeRun c o s) (w .banks)
 
--- Document 02, Ask 1: where a stop leaves a session, which is armed in no case. It is at rest; or, on an older chip and before a data byte of a counted run, it stalls:
--- the select is high, and the next frame resumes the run.
+-- Document 02, Ask 1: where a stop leaves a session, which is armed in no case. It is at rest; or, on an older chip and before a data byte of a
+-- counted run, it stalls: the select is high, and the next frame resumes the run.
 pub data Stops (c : Chip) : Session → Type 0 where
   rests : (sclk : Bool) (t : Settings) → Stops c (record { port = resting sclk t; armed = false })
   stalls : (p : Port) → isNewer c ≡ false → p .csb ≡ true → p .phase ≡ Data → mayStall p ≡ true → Stops c (record { port = p; armed = false })

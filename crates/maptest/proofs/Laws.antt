@@ -73,7 +73,8 @@ module _ (c : Chip) (m : List ℕ) (good : mapNumber c m ≡ 0) where
       placed-control c a (registerAt m a .kind)
       (and-right (kindRule (registerAt m a)) (placeRule (kindsOf c) a (registerAt m a .kind)) (good-entry a h))
 
-  control-at : (a : ℕ) → a < leastCount → controlPlace c a ≡ true → registerAt m a .kind ≡ control
+  -- a place of its table that asks for control has it
+  pub control-at : (a : ℕ) → a < leastCount → controlPlace c a ≡ true → registerAt m a .kind ≡ control
   control-at a l t = eqb-true (registerAt m a .kind) control (control-exactly a (omega (arith, good-count)) ∙ t)
 
 -- the register that asks for a transfer is a control register
