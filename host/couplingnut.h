@@ -45,6 +45,12 @@
  * Each call gives back a number, the lowest that applies (of the converter 13 before 11, of mending 18 before 6, of the fewest frames 19
  * before 11; 12 after 4, and in the sender first); they are listed below.
  *
+ * SEVERAL CHIPS, up to eight with a select each, are read by one call. A sample is then two bytes: the selects, bit i that of chip i, low
+ * selects, those of absent chips high; and the lines, SCLK, SDIO and SDO in bits 1 to 3, the rest zero. Each chip has a session and two
+ * ranges, its banks, of one memory. A record is 8 bytes: the chip's place in the list, 0 to 7, and the record as above. Where the select of
+ * another chip was low at one of the eight edges of a byte that was read, its record says 2 instead of 0 or 1: both may have driven the
+ * line, so that its byte shows nothing of the register. All else of a chip is as if it had been read alone, its select as CSB.
+ *
  * THE OLDER CHIPS. All of the above is about the newer chips. Two older clock chips, the AD9557 and the AD9508, speak an older form of
  * the interface. They have calls of their own, whose names end with the part, and that take its highest address, the top, first. What is
  * different with them:
@@ -80,11 +86,12 @@ extern "C" {
 /* The numbers that calls give back: done, or why not. couplingnut_message has words for each. */
 enum couplingnut_number {
     COUPLINGNUT_DONE = 0,
-    COUPLINGNUT_BAD_SESSION = 1,        /* the bytes are no session, or one that no samples could go on from */
+    COUPLINGNUT_BAD_SESSION = 1,        /* the bytes are no session, or one that no samples could go on from; or a mark where none can be */
     COUPLINGNUT_BAD_MAP_FORM = 2,       /* the map's length, version, n or flags are wrong, or it has fewer than 5 bytes */
     COUPLINGNUT_BAD_MAP_ENTRY = 3,      /* a register of the map breaks a rule */
     COUPLINGNUT_BAD_BANK = 4,           /* a bank isn't n bytes */
-    COUPLINGNUT_BAD_SAMPLES = 5,        /* more than 65,536 samples, or one with any of bits 4 to 7 set */
+    COUPLINGNUT_BAD_SAMPLES = 5,        /* more than 65,536 samples, or one with a spare bit set; of several chips also an odd number
+                                           of bytes, or the select of an absent chip low */
     COUPLINGNUT_SHORT_RECORDS = 6,      /* the records, or the list of what mending alters, need more bytes than are lent */
     COUPLINGNUT_BAD_ORDER = 7,          /* the direction is above 1, or the settings number above 7 (to an older chip above 1) */
     COUPLINGNUT_BAD_COUNT = 8,          /* the count isn't 1 to 1,000, or the data isn't as long as it says (a read has none) */
@@ -96,6 +103,7 @@ enum couplingnut_number {
     COUPLINGNUT_BAD_LIST = 14,          /* a list ends inside an order, or has one of another form, or more than 64 */
     COUPLINGNUT_LONG_SETUP = 15,        /* the orders of a list give more than 65,536 samples in total */
     COUPLINGNUT_BAD_WORDS = 16,         /* the words of touched registers: for a reader not n / 64 rounded up; for their own calls more than 128 */
+    COUPLINGNUT_BAD_CHIPS = 17,         /* no chip or more than eight, or ranges that overlap or leave the memory */
     COUPLINGNUT_BAD_PRODUCT = 18,       /* the product number of a map to be mended is 0x0000 or 0xFFFF */
     COUPLINGNUT_BAD_REGISTERS = 19      /* no register or more than 1,000, not strictly rising, one above 0x7FFF or a control
                                            register, or another number of bytes than addresses */
@@ -144,6 +152,26 @@ typedef struct couplingnut_session {
     uint8_t bytes[COUPLINGNUT_SESSION_SIZE];
 } couplingnut_session;
 
+/*
+ * One of several chips: its session, its mark, and where its banks are in the one memory of all. Opening a chip is couplingnut_open on its
+ * two ranges, with the mark 0. The mark is 1 while bits of a read byte are taken and another select was low at the edge of one of them, else
+ * 0; leave it to the calls.
+ */
+typedef struct couplingnut_chip {
+    couplingnut_session session;
+    uint8_t contended;
+    uint64_t active_start;
+    uint64_t active_length;
+    uint64_t buffer_start;
+    uint64_t buffer_length;
+} couplingnut_chip;
+
+enum { COUPLINGNUT_MOST_CHIPS = 8 };
+
+/* How many bytes a record of several chips has, and how many hold the records of so many chips and samples, whatever they are. */
+enum { COUPLINGNUT_SEVERAL_RECORD_SIZE = 8 };
+#define COUPLINGNUT_SEVERAL_RECORDS_SIZE(chips, samples) (COUPLINGNUT_SEVERAL_RECORD_SIZE * (chips) * (((samples) + 2) / 3))
+
 /* The direction of an order. */
 enum { COUPLINGNUT_WRITE = 0, COUPLINGNUT_READ = 1 };
 
@@ -174,8 +202,8 @@ enum { COUPLINGNUT_MOST_WORDS = 128 };
  * What the library exports.
  *
  * The caller owes, for each call:
- *   - Each pointer with a length after it points to as many bytes, addresses or words as the length says. It is not null, also where
- *     that length is 0. Addresses and words are aligned as their type asks.
+ *   - Each pointer with a length after it points to as many bytes, addresses, words or chips as the length says. It is not null, also where
+ *     that length is 0. Addresses, words and chips are aligned as their type asks.
  *   - session points to a session, and count, taken, samples, length and address to a number each. They are not null.
  *   - What isn't const overlaps nothing else that is passed, and nobody else uses it during the call; nobody writes what is.
  * Nothing else: every value of every byte and number is allowed, and tested before it is cut to a smaller type.
@@ -237,6 +265,17 @@ uint32_t couplingnut_next_record(const uint8_t *map, size_t map_length, coupling
                                  size_t active_length, uint8_t *buffer, size_t buffer_length, uint64_t *words,
                                  size_t words_length, const uint8_t *samples, size_t samples_length, uint8_t *records,
                                  size_t records_length, uint64_t *count, uint64_t *taken);
+
+/*
+ * Reads the samples of several newer chips with one map: 0, 17, or 1 to 6; 17 comes first. Each chip's session and mark, and its ranges of
+ * the memory, become what the samples lead to; the rest of the memory is unchanged. The records stand at the start of `records`, by sample
+ * and then by chip, and *count says how many. Ranges share no byte, a chip's own two neither; each is n bytes. The samples are
+ * samples_length / 2 of two bytes. There are no words of touched registers.
+ */
+COUPLINGNUT_NOT_NULL
+uint32_t couplingnut_read_several(const uint8_t *map, size_t map_length, couplingnut_chip *chips, size_t chips_length,
+                                  uint8_t *memory, size_t memory_length, const uint8_t *samples, size_t samples_length,
+                                  uint8_t *records, size_t records_length, uint64_t *count);
 
 /* Puts the samples of an order at the start of out, their count in *samples: 0, or 7 to 11. The rest of out is unchanged. */
 COUPLINGNUT_NOT_NULL

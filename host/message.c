@@ -34,7 +34,8 @@ static const char *const messages[] = {
     "the orders give more than 65,536 samples in total; cut the list in two",
     "the words for touched registers are not as many as the map needs, or more than 128; lend as many as it has registers, divided by "
     "64 and rounded up",
-    not_given,
+    "there is no chip or there are more than eight, or ranges of the bank memory overlap or leave it; hand in one to eight chips, and give "
+    "each two ranges of its own inside the memory",
     "the product number of the map is 0x0000 or 0xFFFF, which mending can't guess; put the right one at 0x0004 (low byte) and 0x0005",
     "the list has no register or more than 1,000, they do not rise, one is above 0x7FFF or a control register, or there is not a byte "
     "for each; sort the registers, cut the list in two, and write 0x0000, 0x0001 and 0x000F by orders of their own",

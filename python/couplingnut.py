@@ -17,6 +17,13 @@ the map's last one. One recording is read with one part and top:
     session, records = cn.read(chip, session, active, buffer, piece, part='AD9508')
     samples = cn.send(cn.WRITE, 0, 0x15, 2, [0x10, 0x20], part='AD9508', top=0x2C)
 
+Up to eight newer chips on the same wires, each with a select of its own, are read together:
+
+    chips = cn.Several(chip, 3)                         # three of the same map, just opened
+    for piece in pieces:                                # two bytes a sample: the selects, and the other lines
+        for record in chips.read(piece):
+            print(record.chip, record.record, record.contended)
+
 A call that the library refuses raises `Refused`, with the number and its words, and leaves all that it was lent as it was. A session is
 a value: calls give back a new one. A sample is one byte: bit 0 CSB, bit 1 SCLK, bit 2 SDIO, bit 3 SDO.
 
@@ -28,10 +35,10 @@ import os
 from array import array
 from typing import NamedTuple
 
-__all__ = ['PARTS', 'Altered', 'Record', 'Refused', 'Session', 'Settings', 'SettingsInUse', 'banks', 'cut_orders', 'fewest_frames',
-           'listed', 'map_test', 'mend', 'message', 'next_record', 'open', 'read', 'send', 'send_setup', 'to_version_1', 'to_version_2',
-           'touched', 'touched_count', 'touched_mark', 'touched_next', 'touched_words', 'WRITE', 'READ', 'LSB_FIRST', 'ASCENDING',
-           'SINGLE_INSTRUCTION', 'STREAMS']
+__all__ = ['PARTS', 'Altered', 'Chip', 'ChipRecord', 'Record', 'Refused', 'Session', 'Settings', 'SettingsInUse', 'Several', 'banks',
+           'cut_orders', 'fewest_frames', 'listed', 'map_test', 'mend', 'message', 'next_record', 'open', 'read', 'read_several', 'send',
+           'send_setup', 'to_version_1', 'to_version_2', 'touched', 'touched_count', 'touched_mark', 'touched_next', 'touched_words',
+           'WRITE', 'READ', 'LSB_FIRST', 'ASCENDING', 'SINGLE_INSTRUCTION', 'STREAMS']
 
 # The direction of an order, and what its settings number is the sum of.
 WRITE, READ = 0, 1
@@ -43,6 +50,8 @@ STREAMS = 4
 
 SESSION_SIZE = 21
 RECORD_SIZE = 7
+CHIP_RECORD_SIZE = 1 + RECORD_SIZE  # of several chips: the chip's number, and its record
+CONTENDED = 2  # what byte 5 of a read's record has then
 MOST_SAMPLES = 48003  # No order gives more.
 MOST_MAP = 24582  # No map is longer.
 ALTERED_SIZE = 5  # The bytes of an altered entry in mending's list.
@@ -52,6 +61,13 @@ MOST_ORDERS = 64  # No list has more.
 MOST_FRAMES = 9000  # No orders for single registers take more bytes.
 LISTED_VERSION = 1  # The version of the form of an order in a list.
 PHASES = ('rest', 'instruction', 'data')
+
+
+class _LentChip(ctypes.Structure):
+    """couplingnut_chip."""
+    _fields_ = [('session', ctypes.c_uint8 * SESSION_SIZE), ('contended', ctypes.c_uint8),
+                ('active_start', ctypes.c_uint64), ('active_length', ctypes.c_uint64),
+                ('buffer_start', ctypes.c_uint64), ('buffer_length', ctypes.c_uint64)]
 
 
 def _library():
@@ -78,7 +94,9 @@ def _declared(library):
                                           ('send_setup', [wide, given, size, lent, size, told]),
                                           ('fewest_frames', [wide, ctypes.POINTER(ctypes.c_uint16), size, given, size, lent, size, told]),
                                           ('touched_mark', [lent, size]), ('touched_count', [lent, size, told]),
-                                          ('touched_next', [lent, size, wide, told])]:
+                                          ('touched_next', [lent, size, wide, told]),
+                                          ('read_several', [given, size, ctypes.POINTER(_LentChip), size, lent, size, given, size,
+                                                            lent, size, told])]:
         call = getattr(library, 'couplingnut_' + name)
         call.argtypes, call.restype = types, ctypes.c_uint32
     library.couplingnut_message.argtypes, library.couplingnut_message.restype = [ctypes.c_uint32], ctypes.c_char_p
@@ -125,6 +143,20 @@ class Record(NamedTuple):
     def __str__(self):
         """The line that busread prints."""
         return f'{"?WRC"[self.kind]} {self.address:04X} {self.byte3:02X} {self.byte4:02X} {self.byte5} {self.moved:02X}'
+
+
+class ChipRecord(NamedTuple):
+    """A record of several chips: the number of its chip, counted from 0, and the record itself."""
+    chip: int
+    record: Record
+
+    @property
+    def contended(self):
+        """Whether it is a read with another select low at one of its byte's edges; then it doesn't say whether the byte agreed."""
+        return self.record.kind == 2 and self.record.byte5 == CONTENDED
+
+    def __str__(self):
+        return f'{self.chip} {self.record}'
 
 
 class Altered(NamedTuple):
@@ -224,6 +256,17 @@ class Session:
         return self.phase == 'data' and self.last_csb == 1
 
 
+class Chip(NamedTuple):
+    """One of several chips: its session; whether another select was low at an edge of the byte that it is being read; and where its two
+    banks stand in the memory that all of them share."""
+    session: Session
+    contended: bool
+    active_start: int
+    active_length: int
+    buffer_start: int
+    buffer_length: int
+
+
 def message(number):
     """The words for a number."""
     return _LIBRARY.couplingnut_message(number).decode()
@@ -269,6 +312,22 @@ def _banks_lent(active, buffer):
 def _records_of(data, count):
     rows = (data[at:at + RECORD_SIZE] for at in range(0, RECORD_SIZE * count, RECORD_SIZE))
     return [Record(row[0], row[1] * 256 + row[2], *row[3:]) for row in rows]
+
+
+def _chips_lent(chips):
+    """Chips that a call may change, and how many they are; at least one, as above."""
+    lent = (_LentChip * max(len(chips), 1))()
+    for place, chip in zip(lent, chips):
+        ranges = [_wide(number, name) for number, name in zip(chip[2:], Chip._fields[2:])]
+        place.session[:] = bytes(chip.session)
+        place.contended = bool(chip.contended)
+        place.active_start, place.active_length, place.buffer_start, place.buffer_length = ranges
+    return lent, len(chips)
+
+
+def _chip_records_of(data, count):
+    rows = (data[at:at + CHIP_RECORD_SIZE] for at in range(0, CHIP_RECORD_SIZE * count, CHIP_RECORD_SIZE))
+    return [ChipRecord(row[0], _records_of(row[1:], 1)[0]) for row in rows]
 
 
 def _wide(number, name):
@@ -379,6 +438,54 @@ def next_record(map, session, active, buffer, samples, part=None, top=None, touc
     _accept(call(*first, map, len(map), state, *_banks_lent(active, buffer), *_touched_lent(touched, map), samples, len(samples),
                  *_lent(records), ctypes.byref(count), ctypes.byref(taken)))
     return Session(state), next(iter(_records_of(records, count.value)), None), taken.value
+
+
+def read_several(map, chips, memory, samples, room=None):
+    """Reads samples of several chips on the same wires, at most 65,536: the next chips, and a list of `ChipRecord`, by sample and then by
+    chip. The memory, in which each `Chip` has the ranges of its banks, changes in place.
+
+    A sample is two bytes: the selects, bit i for chip i, low where it is selected and high where there is no chip; then the other lines,
+    bit 1 SCLK, bit 2 SDIO, bit 3 SDO. `room` is how many records there is room for. Each chip is read as if it were alone, with its select
+    as CSB, but that a read is `contended` where another select was low. Refused: 17, 1 to 6.
+    """
+    map, samples, chips = bytes(map), bytes(samples), list(chips)
+    lent, length = _chips_lent(chips)
+    records = bytearray(CHIP_RECORD_SIZE * (len(chips) * (len(samples) // 6 + 1) if room is None else room))
+    count = ctypes.c_uint64()
+    _accept(_LIBRARY.couplingnut_read_several(map, len(map), lent, length, *_lent(memory), samples, len(samples), *_lent(records),
+                                              ctypes.byref(count)))
+    after = [Chip(Session(place.session), bool(place.contended), *chip[2:]) for place, chip in zip(lent, chips)]
+    return after, _chip_records_of(records, count.value)
+
+
+class Several:
+    """Several newer chips of one map on the same wires, from their opening on: `chips`, a list of `Chip`, and `memory`, which has the banks
+    of all of them one after the other. Refused: 2, 3."""
+
+    def __init__(self, map, count):
+        self.map, size = bytes(map), _registers(map)
+        self.memory = bytearray(2 * size * count)
+        self.chips = []
+        for number in range(count):
+            start = 2 * size * number
+            view = memoryview(self.memory)[start:start + 2 * size]
+            session = open(self.map, view[:size], view[size:])
+            self.chips.append(Chip(session, False, start, size, start + size, size))
+
+    def read(self, samples, room=None):
+        """Reads on, at most 65,536 samples of two bytes, as `read_several` takes them: a list of `ChipRecord`. Refused: 17, 5, 6."""
+        self.chips, records = read_several(self.map, self.chips, self.memory, samples, room)
+        return records
+
+    def active(self, chip):
+        """What is in force on a chip."""
+        start, length = self.chips[chip][2:4]
+        return bytes(self.memory[start:start + length])
+
+    def buffer(self, chip):
+        """What waits on a chip, or equals what is in force."""
+        start, length = self.chips[chip][4:]
+        return bytes(self.memory[start:start + length])
 
 
 def send(direction, settings, start, count, data=b'', room=MOST_SAMPLES, part=None, top=None):

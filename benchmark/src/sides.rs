@@ -4,6 +4,7 @@
 
 #![allow(unsafe_code)]
 
+use couplingnut_tests::layout::ChipInC;
 use couplingnut_tests::library;
 use couplingnut_tests::second::map::map_test;
 use couplingnut_tests::second::older::{Older, Part};
@@ -24,6 +25,9 @@ pub struct Space {
     pub buffer: Vec<u8>,
     /// Of touched registers.
     pub words: Vec<u64>,
+    /// Of several chips on one wire, and the memory that holds their banks.
+    pub chips: Vec<ChipInC>,
+    pub memory: Vec<u8>,
     /// Records, or outgoing samples.
     pub out: Vec<u8>,
     pub number: u32,
@@ -36,6 +40,8 @@ impl Space {
             active: vec![0xA5; registers],
             buffer: vec![0x5A; registers],
             words: vec![0; words_for(registers)],
+            chips: Vec::new(),
+            memory: Vec::new(),
             out: vec![0xEE; room],
             number: 99,
             count: 99,

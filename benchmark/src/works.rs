@@ -4,8 +4,10 @@
 use couplingnut_tests::chip::{sent, sent_older};
 use couplingnut_tests::second::reader::RECORD;
 use couplingnut_tests::second::sender::Order;
+use couplingnut_tests::several::Given;
 
 use crate::inputs;
+use crate::several;
 use crate::sides::{read_by, read_older_by, send_by, send_older_by, test_by, Side, Space};
 
 /// The most samples of one call.
@@ -84,6 +86,9 @@ enum Job {
     Test {
         map: Vec<u8>,
     },
+    Several {
+        given: Given,
+    },
 }
 
 impl Work {
@@ -128,11 +133,21 @@ impl Work {
         Work { name: "map-test", limit, units: registers, job }
     }
 
+    /// Frames to those of eight chips whose bits are set. A chip is taken out of
+    /// the lent list and put back at each sample: the limit keeps that from
+    /// growing, and promises nothing.
+    fn several(name: &'static str, addressed: u8) -> Self {
+        let limit = Limit { most: 6.0, stretch: 1.0 };
+        let given = several::dense(addressed, REGISTERS, SAMPLES);
+        Work { name, limit, units: SAMPLES, job: Job::Several { given } }
+    }
+
     pub fn space(&self) -> Space {
         match &self.job {
             Job::Read { map, room, .. } => Space::new((map.len() - 5) / 3, *room),
             Job::Send { .. } => Space::new(0, ORDERED_SAMPLES),
             Job::Test { .. } => Space::new(0, 0),
+            Job::Several { given } => several::space(given),
         }
     }
 
@@ -150,6 +165,7 @@ impl Work {
                 send_older_by(side, *top, &older_order(*settings, data), space)
             }
             Job::Test { map } => test_by(side, map, space),
+            Job::Several { given } => several::read_by(side, given, space),
         }
     }
 
@@ -166,6 +182,8 @@ impl Work {
             (Job::Send { .. }, Side::Second) => "second_send_older",
             (Job::Test { .. }, Side::Proved) => "couplingnut_map_test",
             (Job::Test { .. }, Side::Second) => "second_map_test",
+            (Job::Several { .. }, Side::Proved) => "couplingnut_read_several",
+            (Job::Several { .. }, Side::Second) => "second_read_several",
         }
     }
 
@@ -192,7 +210,7 @@ fn older_order(settings: u64, data: &[u8]) -> Order<'_> {
 }
 
 /// The works of one call each, in the order of the table.
-const NAMES: [&str; 18] = [
+const NAMES: [&str; 20] = [
     "read-dense",
     "read-dense-lsb",
     "read-single",
@@ -211,6 +229,8 @@ const NAMES: [&str; 18] = [
     "older-random",
     "older-send-msb",
     "older-send-lsb",
+    "several-one",
+    "several-eight",
 ];
 
 pub fn works() -> impl Iterator<Item = Work> {
@@ -259,6 +279,8 @@ pub fn work(name: &str) -> Option<Work> {
         "older-random" => Work::read_older(name, inputs::noise(SAMPLES)),
         "older-send-msb" => Work::send_older(name, 0),
         "older-send-lsb" => Work::send_older(name, 1),
+        "several-one" => Work::several(name, 0b0000_1000),
+        "several-eight" => Work::several(name, 0b1111_1111),
         _ => return None,
     })
 }

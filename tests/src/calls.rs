@@ -1,24 +1,18 @@
 //! The reader's calls of the library against the second implementation: all
 //! that a call answers and leaves is compared, and a difference is kept.
 
-use std::fs::{self, File};
-use std::os::unix::fs::FileExt;
-
-use crate::environment::{differ, difference_path};
+use crate::environment::{differ, Running};
 use crate::generate::maps::count_of;
 use crate::guarded::{Against, Guarded};
 use crate::layout::{from_bytes, to_bytes, SessionBytes, SESSION_SIZE};
 use crate::library::{self, Lent};
 use crate::made::NOT_WRITTEN;
 use crate::second::older::Older;
-use crate::second::reader::{self, Banks, CUT, READ, RECORD};
-use crate::second::rules::Rules;
+use crate::second::reader::{self, Banks, RECORD};
 use crate::second::session::Session;
 use crate::second::touched::words_for;
 use crate::second::Answer;
-
-/// The file that holds the seed of the present case.
-const RUNNING: &str = "running";
+use crate::tally::RecordTally;
 
 #[derive(Clone, Copy, Debug, PartialEq, Eq)]
 pub enum Call {
@@ -95,15 +89,6 @@ impl Given {
         self.active.clone_from(&left.active);
         self.buffer.clone_from(&left.buffer);
         self.words.clone_from(&left.words);
-    }
-
-    /// Whether the session is one, and sound for the chip that is named.
-    pub fn is_sound(&self) -> bool {
-        match (from_bytes(&self.session), self.older) {
-            (None, _) => false,
-            (Some(session), None) => session.is_sound(),
-            (Some(session), Some(older)) => older.is_sound(&session),
-        }
     }
 
     /// How many records the samples have, if nothing but their room refuses
@@ -259,19 +244,13 @@ impl Memory {
     }
 }
 
-/// What the compared calls came to, so that a test can say that they reached
-/// what it is about.
+/// What the compared calls came to.
 #[derive(Default)]
 pub struct Tally {
     pub calls: u64,
     /// How often each call gave each number.
     pub numbers: [[u64; 17]; 3],
-    pub writes_by_effect: [u64; 6],
-    /// The same writes without and with bits that moved.
-    pub moves_by_effect: [[u64; 2]; 6],
-    pub reads_by_difference: [u64; 2],
-    /// By the piece, instruction or data, and its bits.
-    pub cuts: [[u64; 16]; 2],
+    records: RecordTally,
 }
 
 impl Tally {
@@ -279,32 +258,13 @@ impl Tally {
         self.calls += 1;
         self.numbers[call as usize][left.number as usize] += 1;
         for record in left.records.chunks(RECORD).take(left.count as usize) {
-            let [kind, _, _, third, fourth, fifth, moved] =
-                record.try_into().expect("a whole record");
-            match kind {
-                CUT => self.cuts[usize::from(fourth)][usize::from(third)] += 1,
-                READ => self.reads_by_difference[usize::from(fifth)] += 1,
-                _ => {
-                    self.writes_by_effect[usize::from(fifth)] += 1;
-                    self.moves_by_effect[usize::from(fifth)][usize::from(moved != 0)] += 1;
-                }
-            }
+            self.records.note(record);
         }
     }
 
     /// That every kind of record was met so often, with so many effects.
     pub fn assert_records(&self, effects: usize, times: u64) {
-        let met = |what: &str, counts: &[u64]| {
-            assert!(counts.iter().all(|&count| count >= times), "{what}: {counts:?}");
-        };
-        let (due, others) = self.writes_by_effect.split_at(effects);
-        met("writes by effect", due);
-        assert_eq!(others.iter().sum::<u64>(), 0, "writes of no such effect");
-        met("plain writes without and with moves", &self.moves_by_effect[1]);
-        met("buffered writes without and with moves", &self.moves_by_effect[2]);
-        met("reads", &self.reads_by_difference);
-        met("cuts of an instruction", &self.cuts[0][1..]);
-        met("cuts of a byte", &self.cuts[1][1..8]);
+        self.records.assert_met(effects, 2, times);
     }
 
     /// That a call gave these numbers so often, and no others.
@@ -316,21 +276,19 @@ impl Tally {
     }
 }
 
-/// A list of compared calls. While it runs, a file holds the seed of the
-/// present case, for a call that kills the test.
+/// A list of compared calls.
 pub struct Comparison {
     /// The test, by its path.
     subject: &'static str,
     seed: u64,
     memory: Memory,
-    running: File,
+    running: Running,
     pub tally: Tally,
 }
 
 impl Comparison {
     pub fn new(subject: &'static str) -> Self {
-        let running =
-            File::create(difference_path(subject, RUNNING)).expect("a file for the present seed");
+        let running = Running::new(subject);
         Comparison { subject, seed: 0, memory: Memory::default(), running, tally: Tally::default() }
     }
 
@@ -338,8 +296,7 @@ impl Comparison {
     pub fn begin(&mut self, seed: u64, against: Against) {
         self.seed = seed;
         self.memory.against = against;
-        let text = format!("SEED={seed:<20}\n");
-        self.running.write_all_at(text.as_bytes(), 0).expect("the present seed can be kept");
+        self.running.begin(seed);
     }
 
     /// The call by both; what it left, if they agree. A call that the library
@@ -381,15 +338,8 @@ impl Comparison {
     }
 }
 
-impl Drop for Comparison {
-    /// Nothing is running any more; a test that was killed does not come here.
-    fn drop(&mut self) {
-        fs::remove_file(difference_path(self.subject, RUNNING)).ok();
-    }
-}
-
 /// Bytes by their names, a line each.
-fn lines(named: &[(&str, &[u8])]) -> String {
+pub(crate) fn lines(named: &[(&str, &[u8])]) -> String {
     let hex = |bytes: &[u8]| bytes.iter().map(|byte| format!(" {byte:02X}")).collect::<String>();
     named.iter().map(|(name, bytes)| format!("{name}:{}\n", hex(bytes))).collect()
 }

@@ -1,6 +1,7 @@
 //! What the environment says of a test run, and where differences are kept.
 
-use std::fs;
+use std::fs::{self, File};
+use std::os::unix::fs::FileExt;
 use std::path::{Path, PathBuf};
 
 /// A number from the environment, or this one.
@@ -21,6 +22,33 @@ pub fn differences() -> PathBuf {
 /// The file that a test, named by its path, keeps for one purpose.
 pub fn difference_path(test: &str, purpose: &str) -> PathBuf {
     differences().join(format!("{}-{purpose}.txt", test.replace("::", "-")))
+}
+
+/// While a test runs, a file holds the seed of its present case, for a call that kills
+/// the test.
+pub struct Running {
+    path: PathBuf,
+    file: File,
+}
+
+impl Running {
+    pub fn new(test: &str) -> Self {
+        let path = difference_path(test, "running");
+        let file = File::create(&path).expect("a file for the present seed");
+        Running { path, file }
+    }
+
+    pub fn begin(&mut self, seed: u64) {
+        let text = format!("SEED={seed:<20}\n");
+        self.file.write_all_at(text.as_bytes(), 0).expect("the present seed can be kept");
+    }
+}
+
+impl Drop for Running {
+    /// Nothing is running any more; a test that was killed does not come here.
+    fn drop(&mut self) {
+        fs::remove_file(&self.path).ok();
+    }
 }
 
 /// Keeps what two implementations did not agree on, with the command that shows

@@ -5,6 +5,8 @@
 
 use std::ffi::{c_int, c_void};
 
+use crate::layout::{ChipInC, CHIP_SIZE};
+
 /// The page size of x86-64 Linux, the library's only home.
 const PAGE: usize = 4_096;
 
@@ -86,6 +88,18 @@ impl Guarded {
         // SAFETY: eight bytes each, the first or the last of them at the edge of a page,
         // and so aligned.
         unsafe { std::slice::from_raw_parts_mut(start, words.len()) }
+    }
+
+    /// These chips of a list, against a page.
+    pub fn hold_chips(&mut self, chips: &[ChipInC], against: Against) -> &mut [ChipInC] {
+        let space = self.hold(&vec![0xEE; CHIP_SIZE * chips.len()], against);
+        // SAFETY: as many bytes as the chips are, which may be any, the first or the last
+        // of them at the edge of a page, and so aligned.
+        let held = unsafe {
+            std::slice::from_raw_parts_mut(space.as_mut_ptr().cast::<ChipInC>(), chips.len())
+        };
+        held.copy_from_slice(chips);
+        held
     }
 }
 

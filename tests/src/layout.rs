@@ -1,8 +1,12 @@
 //! The session as a caller of the library holds it: 21 bytes, by the table of the
-//! header. This is the second implementation's side of it.
+//! header; and a chip of a list, 56 bytes. This is the second implementation's side of
+//! them.
+
+use std::mem::offset_of;
 
 use crate::second::session::{Phase, Session, CSB, SCLK};
 use crate::second::settings::Settings;
+use crate::second::several::{BankRange, ListedChip};
 
 pub const SESSION_SIZE: usize = 21;
 
@@ -81,4 +85,40 @@ pub fn from_bytes(bytes: &SessionBytes) -> Option<Session> {
 fn settings_of(flags: &[u8]) -> Settings {
     let set = SETTINGS.into_iter().zip(flags).filter(|(_, &flag)| flag == 1);
     set.fold(Settings::NONE, |sum, (one, _)| sum.with(one))
+}
+
+pub const CHIP_SIZE: usize = 56;
+
+/// A chip of a list (document 02, Ask 10). Two bytes before its ranges hold nothing.
+#[repr(C)]
+#[derive(Clone, Copy, Debug, PartialEq, Eq)]
+pub struct ChipInC {
+    pub session: SessionBytes,
+    /// The mark, 0 or 1.
+    pub contended: u8,
+    pub active: BankRange,
+    pub buffer: BankRange,
+}
+
+const _: () = assert!(size_of::<ChipInC>() == CHIP_SIZE);
+const _: () = assert!(offset_of!(ChipInC, contended) == SESSION_SIZE);
+const _: () = assert!(offset_of!(ChipInC, active.start) == 24);
+const _: () = assert!(offset_of!(ChipInC, active.length) == 32);
+const _: () = assert!(offset_of!(ChipInC, buffer.start) == 40);
+const _: () = assert!(offset_of!(ChipInC, buffer.length) == 48);
+
+impl ChipInC {
+    /// The chip, if its bytes are those of a session and its mark is 0 or 1.
+    pub fn listed(&self) -> Option<ListedChip> {
+        let ChipInC { contended, active, buffer, .. } = *self;
+        let session = from_bytes(&self.session).filter(|_| contended <= 1)?;
+        Some(ListedChip { session, contended: contended == 1, active, buffer })
+    }
+}
+
+impl From<ListedChip> for ChipInC {
+    fn from(chip: ListedChip) -> Self {
+        let ListedChip { session, contended, active, buffer } = chip;
+        ChipInC { session: to_bytes(&session), contended: u8::from(contended), active, buffer }
+    }
 }

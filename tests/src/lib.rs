@@ -7,7 +7,8 @@
 //! [`program`] runs busread. [`library`] calls what is exported to C, and
 //! [`calls`] and [`made`] set those calls against the second implementation, with
 //! memory from [`guarded`] and sessions as in [`layout`]; [`both`] makes a call by
-//! both sides. [`chip`] is a register map with its session and banks, for tests that
+//! both sides, [`several`] is the one for several chips, and [`tally`] counts what the
+//! calls came to. [`chip`] is a register map with its session and banks, for tests that
 //! read a few frames and look at what came of them, and [`book`] what a stopped
 //! run leaves. [`json`] and [`captures`] are for the bench report: what it says, and
 //! the files it reads.
@@ -28,3 +29,5 @@ pub mod library;
 pub mod made;
 pub mod program;
 pub mod second;
+pub mod several;
+pub mod tally;

@@ -9,6 +9,7 @@ pub mod frames;
 pub mod mend;
 pub mod older;
 pub mod setup;
+pub mod several;
 pub mod touched;
 
 pub use calls::{map_test, next_record, open, read, send_into};

@@ -24,6 +24,7 @@ mod report_page;
 mod rise;
 mod sender;
 mod setup;
+mod several;
 mod stopped_run;
 mod through_settings;
 mod touched;

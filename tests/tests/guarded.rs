@@ -7,6 +7,8 @@ use std::os::unix::process::ExitStatusExt;
 use std::process::ExitStatus;
 
 use couplingnut_tests::guarded::{Against, Guarded};
+use couplingnut_tests::layout::ChipInC;
+use couplingnut_tests::second::several::BankRange;
 
 const SIGSEGV: i32 = 11;
 
@@ -56,6 +58,20 @@ fn words_lie_against_either_page() {
         assert_eq!((&*held, held.as_ptr_range().end as usize % 4_096), (&words[..], 0));
         let held = memory.hold_words(&words, Against::PageBefore);
         assert_eq!((&*held, held.as_ptr_range().start as usize % 4_096), (&words[..], 0));
+    }
+}
+
+#[test]
+fn chips_lie_against_either_page() {
+    let mut memory = Guarded::new(5_000);
+    let range = |start| BankRange { start, length: 16 };
+    let chip = |i| ChipInC { session: [7; 21], contended: 1, active: range(i), buffer: range(!i) };
+    for length in [0, 1, 8, 9, 80] {
+        let chips: Vec<ChipInC> = (0..length).map(chip).collect();
+        let held = memory.hold_chips(&chips, Against::PageAfter);
+        assert_eq!((&*held, held.as_ptr_range().end as usize % 4_096), (&chips[..], 0));
+        let held = memory.hold_chips(&chips, Against::PageBefore);
+        assert_eq!((&*held, held.as_ptr_range().start as usize % 4_096), (&chips[..], 0));
     }
 }
 

@@ -12,7 +12,7 @@ use couplingnut_tests::generate::older::sessions::every_older_piece;
 use couplingnut_tests::generate::older::PARTS;
 use couplingnut_tests::generate::random::Random;
 use couplingnut_tests::generate::repeats::{
-    any_reading, filled, last_levels, repeat_of, sampled, with_repeats, without_repeats,
+    any_reading, filled, last_levels, sampled, with_repeats, without_repeats, Sample,
 };
 use couplingnut_tests::generate::sessions::{every_piece, with_every_setting};
 use couplingnut_tests::guarded::Against;
@@ -229,7 +229,7 @@ fn assert_repeats_leave(comparison: &mut Comparison, older: Option<Older>, map: 
         let mut random = Random::new(seed);
         let mut given = Given { session: to_bytes(&session), ..opened.clone() };
         given.samples =
-            (0..random.between(1, 4)).map(|_| repeat_of(&mut random, session.levels)).collect();
+            (0..random.between(1, 4)).map(|_| session.levels.repeat(&mut random)).collect();
         given.records = random.bytes(8);
         assert!(comparison.call(Call::Read, &given) == given.untouched(0), "{given:02X?}");
     }
@@ -269,7 +269,7 @@ fn repeats_are_read_up_to_the_limit() {
 
         let at = random.below(full.len());
         let mut beyond = full.clone();
-        beyond.insert(at + 1, repeat_of(&mut random, full[at]));
+        beyond.insert(at + 1, full[at].repeat(&mut random));
         let beyond = Given { samples: beyond, ..given };
         assert!(comparison.call(Call::Read, &beyond) == beyond.untouched(5), "seed {seed}");
     }

@@ -16,6 +16,7 @@ ghost use Rattle.setup.specs.Calls.{setupOf};
 ghost use Rattle.frames.specs.Calls.{making, makeOf};
 ghost use Rattle.hostcalls.specs.Calls.{opening, openOf, outcome, readOf, next, nextOf};
 
+mod several_chips;
 mod touched_words;
 
 use chip::Chip;

@@ -1,3 +1,4 @@
+pub mod Alone
 pub mod BitsBack
 pub mod Blank
 pub mod Buffered
@@ -17,6 +18,7 @@ pub mod Orders
 pub mod Pieces
 pub mod ReadBack
 pub mod Repeated
+pub mod RepeatedSeveral
 pub mod Runs
 pub mod SameMap
 pub mod SetupReadBack

@@ -31,9 +31,9 @@ use Rattle.guarantees.proofs.Calls.{calls-run, calls-records}
 
 -- ---- the last levels of the next port are those of the sample
 
-record Levels (csb sclk : Bool) (p : Port) : Type 0 where
-  low : p .csb ≡ csb
-  clock : p .sclk ≡ sclk
+pub record Levels (csb sclk : Bool) (p : Port) : Type 0 where
+  pub low : p .csb ≡ csb
+  pub clock : p .sclk ≡ sclk
 
 entered-levels : (c : Chip) (v : ℕ) (t : Settings) (u : InUse) → Levels false true (entered c v t u)
 unfolding entered
@@ -49,7 +49,7 @@ bit-levels c Data p x e f =
     (λ e. each (Levels false true) (usedOn c p .single) (λ e. record { low = refl; clock = refl })
     (λ e. each (Levels false true) (runEnds c p) (λ e. record { low = refl; clock = refl }) (λ e. record { low = refl; clock = refl })))
 
-step-levels : (c : Chip) (p : Port) (x : ℕ) → Levels (csbOf x) (sclkOf x) (stepOf c p x)
+pub step-levels : (c : Chip) (p : Port) (x : ℕ) → Levels (csbOf x) (sclkOf x) (stepOf c p x)
 unfolding stepOf
 step-levels c p x = by (csbOf x) (sclkOf x) (p .csb) (p .sclk) refl refl refl refl
   where
@@ -65,7 +65,7 @@ step-levels c p x = by (csbOf x) (sclkOf x) (p .csb) (p .sclk) refl refl refl re
 
 -- ---- a sample that repeats them
 
-port-again : (c : Chip) (p : Port) (x : ℕ) → csbOf x ≡ p .csb → sclkOf x ≡ p .sclk → (stepOf c p x ≡ p) × (eventOf c p x ≡ Nothing)
+pub port-again : (c : Chip) (p : Port) (x : ℕ) → csbOf x ≡ p .csb → sclkOf x ≡ p .sclk → (stepOf c p x ≡ p) × (eventOf c p x ≡ Nothing)
 unfolding stepOf eventOf
 port-again c p x e f = by (p .csb) (p .sclk) refl refl
   where

@@ -1,3 +1,4 @@
+pub mod Alone
 pub mod AtRest
 pub mod Book
 pub mod Calls
@@ -7,6 +8,7 @@ pub mod Known
 pub mod KnownOlder
 pub mod ReadBack
 pub mod Repeated
+pub mod RepeatedSeveral
 pub mod SameMap
 pub mod SetupReadBack
 pub mod StoppedRun

@@ -73,7 +73,7 @@ fn put_record(
 }
 
 // Puts the record of a write at a place: the byte written, and what the write answered.
-fn put_write(records: &mut [u8], at: usize, address: u16, byte: u8, written: Written)
+pub fn put_write(records: &mut [u8], at: usize, address: u16, byte: u8, written: Written)
     requires { ⌜ at + recordSize ≤ length (now records) ⌝ }
     ensures { λ r. ⌜ now (records .exit) ≡ sets (now (records .entry)) at (writeRecord address byte written) ⌝ }
 {
@@ -90,7 +90,7 @@ fn put_write(records: &mut [u8], at: usize, address: u16, byte: u8, written: Wri
 }
 
 // Puts the record of a read at a place: the due byte, the byte on the line, and whether they differ.
-fn put_read(records: &mut [u8], at: usize, address: u16, due: u8, line: u8)
+pub fn put_read(records: &mut [u8], at: usize, address: u16, due: u8, line: u8)
     requires { ⌜ at + recordSize ≤ length (now records) ⌝ }
     ensures { λ r. ⌜ now (records .exit) ≡ sets (now (records .entry)) at (readRecord address due line) ⌝ }
 {
@@ -102,7 +102,7 @@ fn put_read(records: &mut [u8], at: usize, address: u16, due: u8, line: u8)
 }
 
 // Puts the record of an abort at a place.
-fn put_abort(records: &mut [u8], at: usize, address: u16, bits: u8, in_data: bool)
+pub fn put_abort(records: &mut [u8], at: usize, address: u16, bits: u8, in_data: bool)
     requires { ⌜ at + recordSize ≤ length (now records) ⌝ }
     ensures { λ r. ⌜ now (records .exit) ≡ sets (now (records .entry)) at (abortRecord address bits «in_data») ⌝ }
 {

@@ -13,7 +13,7 @@ use bits::shift_in;
 use chip::Chip;
 
 // Whether the phase is data.
-fn is_data(phase: Phase) -> bool
+pub fn is_data(phase: Phase) -> bool
     ensures { λ r. ⌜ r ≡ isData phase ⌝ }
 {
     match phase {

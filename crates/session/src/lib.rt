@@ -5,10 +5,12 @@ mod events;
 mod state;
 mod step;
 
+pub use events::is_data;
 use settings::InUse;
 use settings::Settings;
 pub use step::is_counted;
 pub use step::may_stall;
+pub use step::takes_bit;
 
 // The bytes left where a run of an older chip streams.
 pub const STREAMS: u8 = 4;

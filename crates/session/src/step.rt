@@ -22,7 +22,7 @@ use settings::Settings;
 use settings::next_address;
 
 // Whether the sample gives one bit, by the levels before it.
-pub(crate) fn takes_bit(csb: bool, sclk: bool, sample: u8) -> bool
+pub fn takes_bit(csb: bool, sclk: bool, sample: u8) -> bool
     ensures { λ r. ⌜ r ≡ (not csb && not (csbOf sample) && not sclk && sclkOf sample) ⌝ }
 {
     !csb & !bit_at(sample, 0) & !sclk & bit_at(sample, 1)

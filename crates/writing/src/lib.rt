@@ -4,7 +4,7 @@ ghost use mathlib.Core.Bool.{true};
 ghost use Prim.Native.Nat.{_<_};
 ghost use lib.ListN.{length};
 ghost use Rattle.registers.specs.Banks.{banks, Mapped};
-ghost use Rattle.writing.specs.Write.{stagesAt, applied, onByte, touchesOn, written, controlWritten, writtenBy, Wrote};
+ghost use Rattle.writing.specs.Write.{stagesAt, effectAt, applied, onByte, touchesOn, written, controlWritten, writtenBy, Wrote};
 
 mod rise;
 mod rule;
@@ -15,6 +15,7 @@ use registers::transfer;
 use regmap::entry_at;
 pub use rise::armed_on;
 pub use rise::end_frame;
+pub use rise::moves_at_rise;
 pub use rule::effect_of;
 use settings::Settings;
 
@@ -102,49 +103,68 @@ fn control_answer(chip: Chip, settings: Settings, address: u16, v: u8, effect: u
     }
 }
 
-// Does to the banks what a write of v does, and answers by its effect and the settings before it.
-fn apply(
+// What a write of v to the register at an address does. Nothing changes yet.
+pub fn effect_at(
     chip: Chip,
     map: &[u8],
-    active: &mut [u8],
-    buffer: &mut [u8],
-    settings: Settings,
+    active: &[u8],
+    buffer: &[u8],
     address: u16,
     v: u8,
-    effect: Effect,
-) -> Written
+) -> Effect
+    requires { ⌜ Mapped (now map) (banks (now active) (now buffer)) ⌝ }
+    ensures { λ r. ⌜ r ≡ effectAt chip (now (map .entry)) (banks (now (active .entry)) (now (buffer .entry))) address v ⌝ }
+{
+    let at = address as usize;
+    let register = entry_at(map, active.len(), at);
+    let stages = stages_at(active, buffer, at);
+    effect_of(chip, register, stages, address, v)
+}
+
+// Does an effect on the register at an address to the two banks.
+fn apply(map: &[u8], active: &mut [u8], buffer: &mut [u8], address: u16, effect: Effect)
     requires { ⌜ (Mapped (now map) (banks (now active) (now buffer))) × (onByte effect ≡ true → address < length (now active)) ⌝ }
-    ensures answer { λ r. ⌜ r ≡ writtenBy chip settings address v effect ⌝ }
-    ensures banks_after { λ r. ⌜ banks (now (active .exit)) (now (buffer .exit)) ≡ applied (now (map .entry)) (banks (now (active .entry)) (now (buffer .entry))) address effect ⌝ }
+    ensures { λ r. ⌜ banks (now (active .exit)) (now (buffer .exit)) ≡ applied (now (map .entry)) (banks (now (active .entry)) (now (buffer .entry))) address effect ⌝ }
 {
     let at = address as usize;
     match effect {
-        Effect::Nothing => untaken(0),
-        Effect::Active { byte, moved } => {
+        Effect::Nothing => {}
+        Effect::Active { byte, moved: _ } => {
             active[at] = byte;
-            Written {
-                byte: byte,
-                effect: EFFECT_ACTIVE,
-                moved: moved,
-            }
         }
-        Effect::Buffer { byte, moved } => {
+        Effect::Buffer { byte, moved: _ } => {
             buffer[at] = byte;
-            Written {
-                byte: byte,
-                effect: EFFECT_BUFFER,
-                moved: moved,
-            }
         }
-        Effect::Control => control_answer(chip, settings, address, v, 3),
+        Effect::Control => {}
         Effect::Transfer => {
             transfer(map, active, buffer);
-            control_answer(chip, settings, address, v, 4)
         }
         Effect::Reset => {
             reset(map, active, buffer);
-            control_answer(chip, settings, address, v, EFFECT_RESET)
         }
+        Effect::Ignored => {}
+    }
+}
+
+// What a write of v answers, by its effect and the settings before it.
+pub fn answer(chip: Chip, settings: Settings, address: u16, v: u8, effect: Effect) -> Written
+    ensures { λ r. ⌜ r ≡ writtenBy chip settings address v effect ⌝ }
+{
+    match effect {
+        Effect::Nothing => untaken(0),
+        Effect::Active { byte, moved } => Written {
+            byte: byte,
+            effect: EFFECT_ACTIVE,
+            moved: moved,
+        },
+        Effect::Buffer { byte, moved } => Written {
+            byte: byte,
+            effect: EFFECT_BUFFER,
+            moved: moved,
+        },
+        Effect::Control => control_answer(chip, settings, address, v, 3),
+        Effect::Transfer => control_answer(chip, settings, address, v, 4),
+        Effect::Reset => control_answer(chip, settings, address, v, EFFECT_RESET),
         Effect::Ignored => untaken(settings.reading(chip, address)),
     }
 }
@@ -162,9 +182,7 @@ pub fn write(
     requires { ⌜ Mapped (now map) (banks (now active) (now buffer)) ⌝ }
     ensures { λ r. ⌜ Wrote chip (now (map .entry)) (banks (now (active .entry)) (now (buffer .entry))) settings address v r (banks (now (active .exit)) (now (buffer .exit))) ⌝ }
 {
-    let at = address as usize;
-    let register = entry_at(map, active.len(), at);
-    let stages = stages_at(active, buffer, at);
-    let effect = effect_of(chip, register, stages, address, v);
-    apply(chip, map, active, buffer, settings, address, v, effect)
+    let effect = effect_at(chip, map, active, buffer, address, v);
+    apply(map, active, buffer, address, effect);
+    answer(chip, settings, address, v, effect)
 }

@@ -11,7 +11,7 @@ use registers::transfer;
 use regmap::flags;
 
 // Whether the end of a frame can move bytes: on a newer chip, with a map that asks for it.
-fn moves_at_rise(chip: Chip, map: &[u8]) -> bool
+pub fn moves_at_rise(chip: Chip, map: &[u8]) -> bool
     ensures { λ r. ⌜ r ≡ movesAtRise chip (now (map .entry)) ⌝ }
 {
     is_newer(chip) & bit_at(flags(map), 0)

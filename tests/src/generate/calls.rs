@@ -11,9 +11,10 @@ use super::sessions::sound_session;
 use super::traces::{clocks, noise, trace};
 use super::words::{another_length, any_words};
 use crate::calls::{Call, Given, Left};
-use crate::layout::{to_bytes, SESSION_SIZE};
+use crate::layout::{from_bytes, to_bytes, SessionBytes, SESSION_SIZE};
 use crate::second::older::Older;
 use crate::second::reader::RECORD;
+use crate::second::rules::Rules;
 
 /// The most samples that a call takes.
 pub const MOST_SAMPLES: usize = 65_536;
@@ -72,7 +73,10 @@ impl Wrong {
     /// Spoils calls that nothing refused so far, whatever else is spoilt after.
     fn apply(self, random: &mut Random, given: &mut Given) {
         match self {
-            Wrong::Session => spoil_session(random, given),
+            Wrong::Session => {
+                let older = given.older;
+                spoil_session(random, &mut given.session, |session| is_sound(older, session));
+            }
             Wrong::MapForm => damage(random, 2).apply(random, &mut given.map),
             Wrong::MapEntry => spoil_entry(random, given),
             Wrong::Banks => spoil_banks(random, given),
@@ -89,7 +93,7 @@ pub fn spoil(random: &mut Random, call: Call, given: &mut Given, wrongs: &[Wrong
     // The records are counted while all is good, and the length of a map is
     // spoilt after its entries.
     if wrongs.contains(&Wrong::Room) {
-        let short = room_too_short(random, given.records_due(call));
+        let short = room_too_short(random, RECORD * given.records_due(call));
         given.records = random.bytes(short);
     }
     for wrong in Wrong::OLDER.into_iter().rev().filter(|&wrong| wrong != Wrong::Room) {
@@ -99,9 +103,8 @@ pub fn spoil(random: &mut Random, call: Call, given: &mut Given, wrongs: &[Wrong
     }
 }
 
-/// Less than so many records need: a byte less, nothing, or anything between.
-fn room_too_short(random: &mut Random, records: usize) -> usize {
-    let needed = RECORD * records;
+/// Less than the records need: a byte less, nothing, or anything between.
+pub(super) fn room_too_short(random: &mut Random, needed: usize) -> usize {
     assert!(needed > 0, "without records no room is too short");
     match random.below(4) {
         0 => 0,
@@ -111,18 +114,30 @@ fn room_too_short(random: &mut Random, records: usize) -> usize {
 }
 
 /// Changes bytes of a sound session until they are no sound session.
-fn spoil_session(random: &mut Random, given: &mut Given) {
-    let sound = given.session;
-    while given.is_sound() {
-        given.session = sound;
+pub(super) fn spoil_session(
+    random: &mut Random,
+    session: &mut SessionBytes,
+    is_sound: impl Fn(&SessionBytes) -> bool,
+) {
+    let sound = *session;
+    while is_sound(session) {
+        *session = sound;
         for _ in 0..random.between(1, 2) {
             let at = random.below(SESSION_SIZE);
-            given.session[at] = random.pick(&[0, 1, 2, 3, 0x10, 0x80, 0xFF, sound[at] ^ 1]);
+            session[at] = random.pick(&[0, 1, 2, 3, 0x10, 0x80, 0xFF, sound[at] ^ 1]);
         }
     }
 }
 
-fn damage(random: &mut Random, number: u8) -> Damage {
+/// Whether the bytes are those of a session that is sound for the chip.
+fn is_sound(older: Option<Older>, session: &SessionBytes) -> bool {
+    from_bytes(session).is_some_and(|session| match older {
+        None => session.is_sound(),
+        Some(older) => older.is_sound(&session),
+    })
+}
+
+pub(super) fn damage(random: &mut Random, number: u8) -> Damage {
     let fitting: Vec<Damage> =
         Damage::ALL.into_iter().filter(|damage| damage.number() == number).collect();
     random.pick(&fitting)

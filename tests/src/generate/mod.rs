@@ -12,6 +12,7 @@ pub mod random;
 pub mod repeats;
 pub mod sessions;
 pub mod setups;
+pub mod several;
 pub mod traces;
 pub mod words;
 

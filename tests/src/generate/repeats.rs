@@ -1,6 +1,6 @@
-//! Repeated samples (document 02, Ask 11): no spare bit set, and CSB and SCLK as in the
-//! sample before; for the first of a call, as the session last saw them. They are put
-//! into recordings, and left out.
+//! Repeated samples (document 02, Ask 11): no spare bit set, and CSB, or all selects, and
+//! SCLK as in the sample before; for the first of a call, as the session last saw them.
+//! They are put into recordings, and left out.
 
 use super::calls::any_trace;
 use super::maps::{count, count_of, good_map};
@@ -17,9 +17,34 @@ use crate::second::session::{CSB, SCLK, SDIO, SDO};
 /// The lines that a repeated sample has as they were.
 const KEPT: u8 = CSB | SCLK;
 
-/// A repeat of the sample before it, SDIO and SDO at will.
-pub fn repeat_of(random: &mut Random, before: u8) -> u8 {
-    before & KEPT | random.byte() & (SDIO | SDO)
+/// A sample of a recording: of one chip, or of several.
+pub trait Sample: Copy {
+    /// A repeat of it, SDIO and SDO at will.
+    fn repeat(self, random: &mut Random) -> Self;
+
+    /// Whether it is a repeat of the sample before it.
+    fn repeats(self, before: Self) -> bool;
+}
+
+impl Sample for u8 {
+    fn repeat(self, random: &mut Random) -> Self {
+        self & KEPT | random.byte() & (SDIO | SDO)
+    }
+
+    fn repeats(self, before: Self) -> bool {
+        (before ^ self) & KEPT == 0 && self >> 4 == 0
+    }
+}
+
+/// The selects, and then the other lines.
+impl Sample for [u8; 2] {
+    fn repeat(self, random: &mut Random) -> Self {
+        [self[0], self[1].repeat(random)]
+    }
+
+    fn repeats(self, before: Self) -> bool {
+        self[0] == before[0] && self[1] & CSB == 0 && self[1].repeats(before[1])
+    }
 }
 
 /// The levels that the session of a call last saw.
@@ -29,7 +54,7 @@ pub fn last_levels(given: &Given) -> u8 {
 
 /// The samples with repeats put in: before the first, after the last and anywhere
 /// between, none or up to so many at a place.
-pub fn with_repeats(random: &mut Random, last: u8, samples: &[u8], most: usize) -> Vec<u8> {
+pub fn with_repeats<S: Sample>(random: &mut Random, last: S, samples: &[S], most: usize) -> Vec<S> {
     let seldom = random.pick(&[1, 2, 9, 60]);
     put_in(random, last, samples, |random, _| match random.one_in(seldom) {
         true => random.between(1, most),
@@ -38,7 +63,7 @@ pub fn with_repeats(random: &mut Random, last: u8, samples: &[u8], most: usize) 
 }
 
 /// The samples with repeats put in at random places until they are so many.
-pub fn filled(random: &mut Random, last: u8, samples: &[u8], length: usize) -> Vec<u8> {
+pub fn filled<S: Sample>(random: &mut Random, last: S, samples: &[S], length: usize) -> Vec<S> {
     let mut times = vec![0; samples.len() + 1];
     for _ in samples.len()..length {
         times[random.below(samples.len() + 1)] += 1;
@@ -52,12 +77,12 @@ pub fn sampled(random: &mut Random, samples: &[u8], times: usize) -> Vec<u8> {
 }
 
 /// As many repeats as are told for each place; place 0 is before the first sample.
-fn put_in(
+fn put_in<S: Sample>(
     random: &mut Random,
-    last: u8,
-    samples: &[u8],
+    last: S,
+    samples: &[S],
     mut times: impl FnMut(&mut Random, usize) -> usize,
-) -> Vec<u8> {
+) -> Vec<S> {
     let mut made = Vec::new();
     let befores = [last].into_iter().chain(samples.iter().copied());
     for (place, before) in befores.enumerate() {
@@ -65,16 +90,21 @@ fn put_in(
             made.push(before);
         }
         let many = times(random, place);
-        made.extend((0..many).map(|_| repeat_of(random, before)));
+        made.extend((0..many).map(|_| before.repeat(random)));
     }
     made
 }
 
 /// The samples without their repeats, but for one in so many of these.
-pub fn without_repeats(random: &mut Random, last: u8, samples: &[u8], kept: usize) -> Vec<u8> {
+pub fn without_repeats<S: Sample>(
+    random: &mut Random,
+    last: S,
+    samples: &[S],
+    kept: usize,
+) -> Vec<S> {
     let mut before = last;
-    let mut is_left = |&sample: &u8| {
-        let repeats = (before ^ sample) & KEPT == 0 && sample >> 4 == 0;
+    let mut is_left = |&sample: &S| {
+        let repeats = sample.repeats(before);
         before = sample;
         !repeats || random.one_in(kept)
     };

@@ -50,16 +50,8 @@ pub struct Master<'a> {
 
 /// A trace of about so many samples, or exactly so many.
 pub fn trace(random: &mut Random, map: &[u8], length: usize, exactly: bool) -> Vec<u8> {
-    let sampling = Sampling::any(random);
-    let mut master = Master {
-        random,
-        map,
-        count: count_of(map),
-        believed: Belief::default(),
-        last_written: 0,
-        sampling,
-        samples: Vec::with_capacity(length + 4_096),
-    };
+    let mut master = Master::new(random, map);
+    master.samples.reserve(length + 4_096);
     let wild = master.random.one_in(6);
     while master.samples.len() < length {
         master.something(wild);
@@ -69,6 +61,13 @@ pub fn trace(random: &mut Random, map: &[u8], length: usize, exactly: bool) -> V
         samples.truncate(length);
     }
     samples
+}
+
+/// Frames that turn all settings off, whatever they are.
+pub fn blind_start(random: &mut Random, map: &[u8]) -> Vec<u8> {
+    let mut master = Master::new(random, map);
+    master.blind_start();
+    master.samples
 }
 
 /// So many samples with CSB low and a clock that never rests, so that a frame
@@ -89,7 +88,20 @@ pub fn noise(random: &mut Random, length: usize) -> Vec<u8> {
     (0..length).map(|_| random.byte() & 0x0F).collect()
 }
 
-impl Master<'_> {
+impl<'a> Master<'a> {
+    fn new(random: &'a mut Random, map: &'a [u8]) -> Self {
+        let sampling = Sampling::any(random);
+        Master {
+            random,
+            map,
+            count: count_of(map),
+            believed: Belief::default(),
+            last_written: 0,
+            sampling,
+            samples: Vec::new(),
+        }
+    }
+
     fn something(&mut self, wild: bool) {
         match self.random.below(if wild { 12 } else { 32 }) {
             0 => self.noise(),

@@ -17,6 +17,7 @@
 //! | `registers`, `reader` | document 02, Ask 4: what arms a session, and what its end moves |
 //! | `setup` | document 02, Ask 6 |
 //! | `touched` | document 02, Ask 7; `registers` sets the bits |
+//! | `several` | document 02, Ask 10, on copies of the banks |
 //! | `mend` | document 02, Ask 12 |
 //! | `frames` | document 02, Ask 13 |
 //! | `verdict` | the rule of the bench report, docs/RULES.md |
@@ -37,6 +38,7 @@ pub mod sender;
 pub mod session;
 pub mod settings;
 pub mod setup;
+pub mod several;
 pub mod touched;
 pub mod verdict;
 

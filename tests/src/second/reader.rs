@@ -9,7 +9,7 @@ use super::session::{Event, Session};
 use super::Answer;
 
 pub const RECORD: usize = 7;
-const MOST_SAMPLES: usize = 65_536;
+pub(super) const MOST_SAMPLES: usize = 65_536;
 
 pub const WRITE: u8 = 1;
 pub const READ: u8 = 2;
@@ -187,6 +187,19 @@ fn write_records(
         records[RECORD * count..RECORD * (count + 1)].copy_from_slice(&record);
         count += 1;
     }
+}
+
+/// Takes one sample of a sound session, and gives the record that it brings.
+#[inline(always)]
+pub(super) fn step(
+    registers: &mut Registers<impl Rules>,
+    session: &mut Session,
+    sample: u8,
+) -> Option<[u8; RECORD]> {
+    let was_armed = session.armed;
+    let event = session.next_event(registers.rules, &[sample], &mut 0);
+    move_before(registers, was_armed, session);
+    event.map(|event| record_of(event, registers, session))
 }
 
 /// Moves buffered registers if the session, now at an event or after the last

@@ -1,16 +1,13 @@
--- `writing::apply` meets its contract: one equation of the definitions for each effect.
+-- `writing::apply` meets its contract: one equation of the definition for each effect.
 use borrow.Author.Needs.{needs}
 use native.Mathlib.Omega.{arith}
 use mathlib.Core.Path.{refl, ap}
-use Rattle.writing.specs.Write.{applied, onByte, writtenBy}
+use Rattle.writing.specs.Write.{applied, onByte}
 use Rattle.writing.proofs.apply.Statement.{statement}
 use Rattle.writing.proofs.apply.Tie as tie
 
 enum-told : tie.Need-enum-told
 enum-told c = search needs
-
-untaken-requires : tie.Need-untaken-requires
-untaken-requires c κs = search needs
 
 enum-known-effect : tie.Need-enum-known-effect
 enum-known-effect c = search needs
@@ -29,103 +26,82 @@ slice-write-buffer c =
 enum-told-2 : tie.Need-enum-told-2
 enum-told-2 c = search needs
 
-control-answer-requires : tie.Need-control-answer-requires
-control-answer-requires c κs = search needs
-
 enum-told-3 : tie.Need-enum-told-3
 enum-told-3 c = search needs
 
 transfer-requires : tie.Need-transfer-requires
-transfer-requires c κs = c .before .before .before .before .before .before .before .pre .0
-
-control-answer-requires-2 : tie.Need-control-answer-requires-2
-control-answer-requires-2 c κs = search needs
+transfer-requires c κs = search needs
 
 enum-told-4 : tie.Need-enum-told-4
 enum-told-4 c = search needs
 
 reset-requires : tie.Need-reset-requires
-reset-requires c κs = c .before .before .before .before .before .before .before .pre .0
-
-control-answer-requires-3 : tie.Need-control-answer-requires-3
-control-answer-requires-3 c κs = search needs
+reset-requires c κs = search needs
 
 enum-told-5 : tie.Need-enum-told-5
 enum-told-5 c = search needs
 
-reading-requires : tie.Need-reading-requires
-reading-requires c κs = search needs
-
-untaken-requires-2 : tie.Need-untaken-requires-2
-untaken-requires-2 c κs = search needs
-
 returns : tie.Need-returns
-unfolding applied writtenBy
-returns c = rw (c .before .enum-told .given .1) (c .untaken .ensures, refl)
+unfolding applied
+returns c = rw (c .enum-told .given .1) refl
 
 same-length : tie.Need-same-length
 same-length c = search needs
 
 returns-2 : tie.Need-returns-2
-unfolding applied writtenBy
-returns-2 c = rw (c .before .effect .given .1) (refl, refl)
+unfolding applied
+returns-2 c = rw (c .before .effect .given .1) refl
 
 same-length-2 : tie.Need-same-length-2
 same-length-2 c = search needs
 
 returns-3 : tie.Need-returns-3
-unfolding applied writtenBy
-returns-3 c = rw (c .before .effect2 .given .1) (refl, refl)
+unfolding applied
+returns-3 c = rw (c .before .effect2 .given .1) refl
 
 returns-4 : tie.Need-returns-4
-unfolding applied writtenBy
-returns-4 c = rw (c .before .enum-told2 .given .1) (c .control-answer .ensures, refl)
+unfolding applied
+returns-4 c = rw (c .enum-told2 .given .1) refl
 
 same-length-3 : tie.Need-same-length-3
-same-length-3 c = c .before .before .before .transfer .kept .1 .0
+same-length-3 c = search needs
 
 same-length-4 : tie.Need-same-length-4
-same-length-4 c = refl
+same-length-4 c = search needs
 
 returns-5 : tie.Need-returns-5
-unfolding applied writtenBy
-returns-5 c = rw (c .before .before .before .before .before .before .enum-told3 .given .1) (c .control-answer2 .ensures, c .before .before .before .transfer .ensures)
+unfolding applied
+returns-5 c = rw (c .before .before .before .before .before .enum-told3 .given .1) (c .before .before .transfer .ensures)
 
 same-length-5 : tie.Need-same-length-5
-same-length-5 c = c .before .before .before .before .before .reset .kept .1 .0
+same-length-5 c = search needs
 
 same-length-6 : tie.Need-same-length-6
-same-length-6 c = c .before .before .before .before .before .reset .kept .1 .1 .0
+same-length-6 c = search needs
 
 returns-6 : tie.Need-returns-6
-unfolding applied writtenBy
-returns-6 c = rw (c .before .before .before .before .before .before .before .before .enum-told4 .given .1) (c .control-answer3 .ensures, c .before .before .before .before .before .reset .ensures)
+unfolding applied
+returns-6 c = rw (c .before .before .before .before .before .before .before .enum-told4 .given .1) (c .before .before .before .before .reset .ensures)
 
 returns-7 : tie.Need-returns-7
-unfolding applied writtenBy
-returns-7 c = rw (c .before .before .enum-told5 .given .1) (rw (← c .before .reading .ensures) (c .untaken2 .ensures), refl)
+unfolding applied
+returns-7 c = rw (c .enum-told5 .given .1) refl
 
 pub apply-spec : {M : Type 1} → statement M
 apply-spec =
     tie.close
     (tie.spec
     enum-told
-    untaken-requires
     enum-known-effect
     slice-write-active
     enum-known-effect-2
     slice-write-buffer
     enum-told-2
-    control-answer-requires
     enum-told-3
     transfer-requires
-    control-answer-requires-2
     enum-told-4
     reset-requires
-    control-answer-requires-3
     enum-told-5
-    reading-requires
-    untaken-requires-2
     returns
     same-length
     returns-2

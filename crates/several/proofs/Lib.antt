@@ -1,0 +1,12 @@
+pub mod Kept
+pub mod Bytes
+mod Moving
+mod Putting
+mod Still
+mod Turning
+mod Within
+pub mod Memory
+pub mod Accepted
+pub mod Listed
+pub mod Samples
+pub mod Records

@@ -1,0 +1,86 @@
+-- The parts of one chip's turn at one sample.
+use Prim.Native.Nat.{ℕ, _+_, _<_, _≤_}
+use mathlib.Core.Path.{_≡_}
+use mathlib.Core.Bool.{Bool, true, cond, not, _&&_, _||_}
+use mathlib.Core.List.{List, []}
+use lib.Dec.{ltb}
+use lib.ListN.{length, set}
+use lib.Seq.{sets}
+use Rattle.bits.specs.Bits.{bitOf}
+use Rattle.chip.specs.declared.Chip.the-variants.{Newer}
+use Rattle.regmap.specs.Format.{countOf}
+use Rattle.settings.specs.declared.Settings.{Settings}
+use Rattle.session.specs.declared.Session.{Session}
+use Rattle.session.specs.declared.Event.{Event}
+use Rattle.session.specs.Step.{csbOf, sclkOf}
+use Rattle.registers.specs.Banks.{Banks, banks}
+use Rattle.ranges.specs.Ranges.{banksIn, placed, Within}
+use Rattle.records.specs.BanksAfter.{banksAfter, armedAfter}
+use Rattle.records.specs.Records.{recordOf}
+use Rattle.records.specs.declared.Took.{Took}
+use Rattle.several.specs.declared.Member.{Member}
+use Rattle.several.specs.declared.Turn.{Turn}
+use Rattle.several.specs.declared.step.Moved.{Moved}
+use Rattle.several.specs.Samples.{Sample}
+use Rattle.several.specs.State.{State, stateAfter, given, isRead, numbered, recordAt, bytesOf}
+use Rattle.several.specs.Members.{stateOf, memberWith, soundMember}
+use Rattle.several.specs.Contracts.{turn}
+
+-- a sample moves the last levels alone: CSB is as it was, and no bit is taken
+abbrev pub onlyLevels : Bool → Bool → ℕ → Bool
+onlyLevels csb sclk x = (csb && csbOf x) || (not csb && (not (csbOf x) && (sclk || not (sclkOf x))))
+
+-- a chip with another last level of SCLK
+abbrev pub withClock : Member → Bool → Member
+withClock w sclk = record {
+  session = set (w .session) 2 (bitOf sclk);
+  contended = w .contended;
+  «active_start» = w .«active_start»;
+  «active_length» = w .«active_length»;
+  «buffer_start» = w .«buffer_start»;
+  «buffer_length» = w .«buffer_length»;
+}
+
+-- a chip's session and mark, without its banks
+abbrev pub state : Session → Bool → State
+state s contended = record { session = s; contended = contended; banks = banks [] [] }
+
+-- the next turn, with the place after the records so far
+abbrev pub nextTurn : ℕ → Turn → ℕ → Turn
+nextTurn chips t at = cond (ltb (t .chip + 1) chips) (turn (t .sample) (t .chip + 1) at) (turn (t .sample + 1) 0 at)
+
+-- the bytes of the record that an event gives of chip i, or none
+abbrev pub eventBytes : List ℕ → Banks → Settings → Event → ℕ → Bool → List ℕ
+eventBytes m b t e i contended = bytesOf (given e (numbered i (isRead e && contended) (recordOf Newer m b t e)))
+
+-- before an event is taken: the ranges of the chip, and room for its record
+pub record TakingWithin (m mem : List ℕ) (n a b : ℕ) (t : Settings) (e : Event) (i : ℕ) (contended : Bool) (old : List ℕ) (at : ℕ) : Type 0 where
+  pub within : Within m mem n a b
+  pub room : at + length (eventBytes m (banksIn mem n a b) t e i contended) ≤ length old
+
+-- after it: the banks in the memory, whether the session is armed, the record in its place, and the place after it
+pub record TakenWithin
+    (m mem : List ℕ) (n a b : ℕ) (t : Settings) (armed : Bool) (e : Event) (i : ℕ) (contended : Bool) (old : List ℕ) (at : ℕ)
+    (memory new : List ℕ) (took : Took) : Type 0 where
+  pub memory-after : memory ≡ placed mem a b (banksAfter Newer m armed (banksIn mem n a b) e)
+  pub armed-after : took .armed ≡ armedAfter Newer m armed (banksIn mem n a b) e
+  pub records-after : new ≡ sets old at (eventBytes m (banksIn mem n a b) t e i contended)
+  pub next-place : took .at ≡ at + length (eventBytes m (banksIn mem n a b) t e i contended)
+
+-- before a sample moves a chip: what a turn asks, of a sample at hand
+pub record Moving (m : List ℕ) (w : Member) (mem : List ℕ) (x : Sample) (i : ℕ) (old : List ℕ) (at : ℕ) : Type 0 where
+  pub sound : soundMember w ≡ true
+  pub active-size : w .«active_length» ≡ countOf m
+  pub buffer-size : w .«buffer_length» ≡ countOf m
+  pub within : Within m mem (countOf m) (w .«active_start») (w .«buffer_start»)
+  pub number : i < 8
+  pub lines : x .lines ≤ 15
+  pub room : at + length (bytesOf (recordAt m i (stateOf mem w) x)) ≤ length old
+
+-- after it: the chip, its banks in the memory, its record, and the place after it
+pub record HasMoved
+    (m : List ℕ) (w : Member) (mem : List ℕ) (x : Sample) (i : ℕ) (old : List ℕ) (at : ℕ) (r : Moved) (memory new : List ℕ) : Type 0 where
+  pub member-after : r .member ≡ memberWith w (stateAfter m i (stateOf mem w) x)
+  pub memory-after : memory ≡ placed mem (w .«active_start») (w .«buffer_start») (stateAfter m i (stateOf mem w) x .banks)
+  pub records-after : new ≡ sets old at (bytesOf (recordAt m i (stateOf mem w) x))
+  pub next-place : r .at ≡ at + length (bytesOf (recordAt m i (stateOf mem w) x))

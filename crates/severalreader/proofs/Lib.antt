@@ -1,0 +1,5 @@
+pub mod Again
+mod Gathering
+mod Resume
+mod Turns
+mod Reached

@@ -1,0 +1,10 @@
+-- A range of the code, as the numbers are defined on it.
+use Rattle.several.specs.Numbers as numbers
+use Rattle.severalrefusals.specs.declared.memory.Range as code
+
+abbrev pub rangeOf : code.Range → numbers.Range
+rangeOf r = record { start = r .start; size = r .size }
+
+-- what stands where there is no range
+abbrev pub noRange : numbers.Range
+noRange = record { start = 0; size = 0 }

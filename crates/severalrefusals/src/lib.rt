@@ -1,0 +1,47 @@
+// The numbers of reading several chips, in their order. Nothing is changed here.
+ghost use mathlib.Core.Path.{_≡_};
+ghost use Rattle.severalrefusals.specs.Group.{groupNumber};
+
+mod group;
+mod members;
+mod memory;
+mod room;
+mod samples;
+
+use chip::Chip;
+pub use group::Group;
+use maptest::map_number;
+use members::all_sound;
+use memory::ranges_fit;
+use memory::ranges_good;
+use room::room_suffices;
+use samples::samples_good;
+
+// The number of reading several chips with a bank memory of some size and a record buffer of some room: 0, or the refusal.
+pub fn several_refusal(map: &[u8], group: Group, size: usize, samples: &[u8], room: usize) -> u8
+    ensures { λ r. ⌜ r ≡ groupNumber (now (map .entry)) group size (now (samples .entry)) room ⌝ }
+{
+    if (group.count < 1) | (8 < group.count) {
+        return 17;
+    }
+    if !ranges_good(group, size) {
+        return 17;
+    }
+    if !all_sound(group) {
+        return 1;
+    }
+    let number = map_number(Chip::Newer, map);
+    if number != 0 {
+        return number;
+    }
+    if !ranges_fit(group, regmap::count(map)) {
+        return 4;
+    }
+    if !samples_good(group.count, samples) {
+        return 5;
+    }
+    if room_suffices(group, samples, room) {
+        return 0;
+    }
+    6
+}
