@@ -4,14 +4,14 @@ from __future__ import annotations
 from typing import Callable, Dict, List
 
 from . import facts
-from .findings import BROKEN, COMMAND, IGNORED_WRITE, READ, RECORDING, WAITS, WANTED, Finding, is_read
+from .findings import BROKEN, COMMAND, IGNORED_WRITE, NOWHERE, READ, RECORDING, WAITS, WANTED, Finding, is_read
 from .reading import RESET, TRANSFER, Reading
 from .report import Judged
 from .sentences import at_place, counted, number, short
 from .unit import ABSENT, BUFFERED, CONTROL, READ_ONLY, Register
 
 TITLES = {COMMAND: 'Broken off', BROKEN: 'Broken off', WAITS: 'Waits', READ: 'Read disagreed', IGNORED_WRITE: 'Ignored write',
-          WANTED: 'Not as wanted', RECORDING: 'Recording not whole'}
+          NOWHERE: 'Address that the chip does not have', WANTED: 'Not as wanted', RECORDING: 'Recording not whole'}
 
 
 def title(report: Judged, finding: Finding) -> str:
@@ -30,7 +30,9 @@ def to_do(report: Judged, finding: Finding) -> str:
     if finding.cause == COMMAND:
         return 'find in the setting list what was to be sent here, and send it again.'
     if finding.cause == RECORDING:
-        return _to_do_recording(report.reading)
+        return _to_do_recording(report.reading, finding)
+    if finding.cause == NOWHERE:
+        return 'correct the address in the setting list; or give the table all addresses that the chip has.'
     if finding.listed:
         return _to_do_for_many(finding)
     register = report.unit.register(finding.addresses[0])
@@ -39,7 +41,9 @@ def to_do(report: Judged, finding: Finding) -> str:
     return advices[finding.cause](report.reading, register, finding)
 
 
-def _to_do_recording(reading: Reading) -> str:
+def _to_do_recording(reading: Reading, finding: Finding) -> str:
+    if finding.starts:
+        return 'send the bytes that are left of this run before anything new, or reset the chip; then record the whole set-up again.'
     if reading.frames and all(frame.took_no_bit() for frame in reading.frames):
         return 'see that the clock line is connected, and is the one that was named; then record again.'
     if not reading.frames:
@@ -90,16 +94,18 @@ def _to_do_ignored(_reading: Reading, register: Register, _finding: Finding) -> 
 def details(report: Judged, finding: Finding) -> List[str]:
     """Where it happened, and what explains it; of broken bytes their pictures tell."""
     rate = report.capture.rate
-    if finding.cause == RECORDING:
+    if finding.cause == RECORDING and not finding.starts:
         return ['What passed before or after it is not known.'] if report.reading.frames else []
     if finding.listed:
         return []
-    places = [at_place(event.at, rate) for event in finding.events[:4]]
-    more = f' and {number(len(finding.events) - 4)} more' if len(finding.events) > 4 else ''
+    places = [at_place(at, rate) for at in finding.places()[:4]]
+    more = f' and {number(len(finding.places()) - 4)} more' if len(finding.places()) > 4 else ''
     if finding.cause == WAITS:
         return [f'Last written at {places[0]}.'] if places else ['Not written in this recording.']
     if finding.cause == WANTED:
         return [_history(report, finding)]
+    if finding.cause in (RECORDING, NOWHERE):
+        return [f'In {"the frame that begins" if len(finding.starts) == 1 else "frames that begin"} at {", ".join(places)}{more}.']
     return [f'At {", ".join(places)}{more}.' + (' Nothing changed.' if finding.cause == IGNORED_WRITE else '')]
 
 

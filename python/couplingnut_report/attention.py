@@ -162,7 +162,7 @@ def _strip(report: Judged) -> str:
     if not frames:
         return ''
     numbered = list(enumerate(report.verdict.reasons, 1))
-    marks = [(finding.events[0].at, at) for at, finding in numbered if finding.events]
+    marks = [(finding.places()[0], at) for at, finding in numbered if finding.places()]
     if frames[-1].end is None:
         marks.append((frames[-1].start, max(at for at, finding in numbered if finding.cause == RECORDING)))
     scale = element('span', f'{unit_of_time(report.reading)}; each block is one frame', 'small')

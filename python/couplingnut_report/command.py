@@ -11,6 +11,7 @@ from .captures import RAW_END, STANDARD_INPUT, Wish, rate_of, read_capture
 from .htmlpage import html_page
 from .jsonpage import json_page
 from .lines import CALLED, LINES
+from .parts import chip_of
 from .textpage import text_page
 from .unit import read_unit
 
@@ -29,6 +30,13 @@ def _add_lines(parser: argparse.ArgumentParser) -> None:
     for line in LINES:
         group.add_argument(f'--{line}', metavar='NAME', action='append' if line == 'csb' else 'store',
                            help=f'the channel of the {CALLED[line]} line; else it is found by a usual name')
+
+
+def _add_part(parser: argparse.ArgumentParser) -> None:
+    """The options that name an older chip."""
+    parser.add_argument('--part', metavar='NAME', help='the unit\'s chip is an older one: AD9557 or AD9508')
+    parser.add_argument('--top', metavar='ADDRESS', help='the highest address that the part has, hexadecimal: it has to be the last one of '
+                        'the table or map')
 
 
 def _report_parser(commands) -> None:
@@ -52,6 +60,7 @@ def _report_parser(commands) -> None:
     parser.add_argument('--rate', type=_rate, metavar='HZ', help='samples a second, where the capture does not say')
     parser.add_argument('--format', dest='form', metavar='FORMAT', help='the input format for sigrok-cli, as its -I takes it')
     parser.add_argument('--flags', type=_flags, metavar='FLAGS', help='the flag byte of the unit\'s map, as mkmap takes it')
+    _add_part(parser)
     _add_lines(parser)
     parser.set_defaults(run=_report)
 
@@ -62,6 +71,7 @@ def _follow_parser() -> argparse.ArgumentParser:
         description='Prints each record as soon as its last sample has come.', usage='couplingnut read --follow [OPTION..] MAP [SAMPLES]')
     parser.add_argument('map', metavar='MAP', help='the map, as mkmap makes it')
     parser.add_argument('samples', nargs='?', default=STANDARD_INPUT, metavar='SAMPLES', help='raw samples; - is standard input')
+    _add_part(parser)
     _add_lines(parser)
     return parser
 
@@ -127,11 +137,11 @@ def _check(words: argparse.Namespace) -> None:
 
 def _report(words: argparse.Namespace) -> int:
     _check(words)
-    wish, filled = _wish(words), report.Filled(words.date, words.technician)
+    wish, filled, chip = _wish(words), report.Filled(words.date, words.technician), chip_of(words.part, words.top, words.flags)
     if words.all is not None:
         to_output = words.page == 'json'
-        return site.make_site(site.Folder(words.all, words.unit_table, words.out, words.jobs, to_output, wish, filled, words.flags))
-    unit = read_unit(words.unit_table, words.unit, words.flags)
+        return site.make_site(site.Folder(words.all, words.unit_table, words.out, words.jobs, to_output, wish, filled, chip))
+    unit = read_unit(words.unit_table, words.unit, chip)
     made = report.make(unit, read_capture(words.capture, wish), filled)
     content = PAGES[_page_of(words)](made)
     if words.out in (None, STANDARD_INPUT):
@@ -160,7 +170,7 @@ def _read_or_follow(words: List[str]) -> int:
             print('\nWithout --follow it is busread:\n', flush=True)
         _tool('read', words)
     asked = _follow_parser().parse_args([word for word in words if word != '--follow'])
-    return follow.follow(asked.map, asked.samples, _named(asked))
+    return follow.follow(asked.map, asked.samples, _named(asked), chip_of(asked.part, asked.top))
 
 
 def _parser() -> argparse.ArgumentParser:

@@ -10,6 +10,7 @@ from .reading import ACTIVE, IGNORED, READ, RESET, SETTING, TRANSFER, WAITING, W
 from .unit import BUFFERED, PLAIN, READ_ONLY, Register
 
 SLOW_ADDRESS, SLOW_BIT = 0x0001, 0x10
+RESETS = 'soft resets'  # as a page counts them
 
 
 @dataclass
@@ -84,10 +85,10 @@ def rows(reading: Reading) -> List[Row]:
 
 
 def counts(reading: Reading) -> Dict[str, int]:
-    """How many of each kind there were."""
+    """How many of each kind there were; an older part has no soft reset."""
     events = list(reading.events())
     writes = [event.record.byte5 for event in events if event.record.kind == WRITE]
-    return {
+    found = {
         'frames': len(reading.frames),
         'bytes written': len(writes),
         'in force at once': writes.count(ACTIVE),
@@ -95,15 +96,16 @@ def counts(reading: Reading) -> Dict[str, int]:
         'bytes read': sum(event.record.kind == READ for event in events),
         'reads that disagreed': sum(event.disagrees() for event in events),
         'transfers': writes.count(TRANSFER),
-        'soft resets': writes.count(RESET),
+        RESETS: writes.count(RESET),
         'broken bytes': sum(event.is_cut() and event.in_data() for event in events),
         'broken commands': sum(event.is_cut() and not event.in_data() for event in events),
         'ignored writes': writes.count(IGNORED),
         'interface settings': writes.count(SETTING),
     }
+    return {name: count for name, count in found.items() if reading.unit.part is None or name != RESETS}
 
 
 def slow_requests(reading: Reading) -> List[Event]:
-    """The writes that ask for the slow setting, which there is not."""
-    return [event for event in reading.events()
-            if event.record.kind == WRITE and event.record.address == SLOW_ADDRESS and event.record.byte3 & SLOW_BIT]
+    """The writes that ask for the slow setting, which there is not. On an older part their register is an ordinary one."""
+    return [event for event in reading.events() if reading.unit.part is None
+            and event.record.kind == WRITE and event.record.address == SLOW_ADDRESS and event.record.byte3 & SLOW_BIT]

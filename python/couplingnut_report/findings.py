@@ -14,8 +14,8 @@ from .sentences import Sentence, Strong, Value, Words, at_place, counted, number
 from .unit import ABSENT, BLANK, CONTROL, READ_ONLY, Register
 
 # Causes of a reason or a remark.
-COMMAND, BROKEN, WAITS, READ, IGNORED_WRITE, WANTED, RECORDING, FRAME, SLOW = (
-    'command', 'broken', 'waits', 'read', 'ignored', 'wanted', 'recording', 'frame', 'slow')
+COMMAND, BROKEN, WAITS, READ, IGNORED_WRITE, NOWHERE, WANTED, RECORDING, FRAME, SLOW = (
+    'command', 'broken', 'waits', 'read', 'ignored', 'nowhere', 'wanted', 'recording', 'frame', 'slow')
 # So many of a kind are told one by one; more share one reason, or are listed below the first of them.
 MANY = 3
 BITS = {True: 8, False: 16}
@@ -23,13 +23,18 @@ BITS = {True: 8, False: 16}
 
 @dataclass(frozen=True)
 class Finding:
-    """One reason or remark: its cause, a sentence, the registers that it names and the events behind it. Of several registers that share
-    one, `listed` is true."""
+    """One reason or remark: its cause, a sentence, the registers that it names and the events behind it, or the samples at which the frames
+    behind it begin. Of several registers that share one, `listed` is true."""
     cause: str
     sentence: Sentence
     addresses: Tuple[int, ...] = ()
     events: Tuple[Event, ...] = ()
     listed: bool = False
+    starts: Tuple[int, ...] = ()
+
+    def places(self) -> List[int]:
+        """The samples at which it happened."""
+        return [event.at for event in self.events] or list(self.starts)
 
 
 @dataclass(frozen=True)
@@ -239,7 +244,26 @@ def _whole(reading: Reading) -> List[Finding]:
         found.append(Finding(RECORDING, [subject, ' is not whole: it begins with the select low, in the middle of a frame.']))
     if not reading.ends_high():
         found.append(Finding(RECORDING, [subject, ' is not whole: it ends with the select low, in the middle of a frame.']))
+    if reading.session.stalled:
+        found.append(Finding(RECORDING, [subject, *_stall(reading)], starts=(reading.frames[-1].start,)))
     return found
+
+
+def _stall(reading: Reading) -> Words:
+    """That a run of an older chip is not finished, though the select is high."""
+    session = reading.session
+    left = f'{counted(session.left, "byte is", "bytes are")} still to come, from {reading.unit.register(session.address).titled()} on'
+    return [f' is not whole: it ends in a run that is not finished. The select is high, but {left}; the chip takes the next frame for '
+            'the rest of this run.']
+
+
+def _nowhere(reading: Reading) -> List[Finding]:
+    """Commands to an older chip that name an address which it does not have."""
+    starts = tuple(frame.start for frame in reading.frames if frame.led_nowhere())
+    often = '' if len(starts) == 1 else f' ({counted(len(starts), "command")} did; this is the first)'
+    words = [Strong('A command'), f' named an address above {place(reading.unit.size - 1)}, which is the highest of the {reading.unit.part}'
+             f'{often}: nothing was written or read by it.']
+    return [Finding(NOWHERE, words, starts=starts)] * bool(starts)
 
 
 def _idle_frames(reading: Reading) -> List[Finding]:
@@ -265,5 +289,5 @@ def judged(reading: Reading) -> Verdict:
     waits = _waits(reading)
     ignored, harmless = _ignored(reading)
     told = [address for finding in cuts + waits for address in finding.addresses]
-    reasons = _whole(reading) + cuts + waits + _reads(reading) + ignored + _wanted(reading, told)
+    reasons = _whole(reading) + cuts + waits + _reads(reading) + ignored + _nowhere(reading) + _wanted(reading, told)
     return Verdict(reasons, mended + harmless + _idle_frames(reading) + _slow(reading))

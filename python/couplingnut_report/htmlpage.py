@@ -41,7 +41,7 @@ def _facts(report: Report) -> str:
     capture, unit = report.capture, report.unit
     long = f'{seconds(len(capture.samples), capture.rate)} at {number(capture.rate)} a second' if capture.rate else 'its rate is not known'
     whole, why = report.wholeness() if isinstance(report, Judged) else ('Not known', 'the recording was refused')
-    facts = (_field('Unit', unit.name) + _field('Recorded', report.filled.date) + _field('Chip, by the map', chip(unit), long=True)
+    facts = (_field('Unit', unit.name) + _field('Recorded', report.filled.date) + _field(*chip(unit), long=True)
              + _field('Technician', report.filled.technician, long=True) + _field('Recording', capture.file, _sha(capture.sha256), True)
              + _field('Map and wanted values', unit.file, _sha(unit.sha256), True)
              + _field('Length', counted(len(capture.samples), 'sample'), long) + _field('Recording whole', whole, why))
@@ -97,7 +97,8 @@ def _counts(report: Union[Judged, Refused]) -> str:
 
 
 def _legend(report: Report) -> str:
-    lines = ''.join(element('li', marked(sentence)) + '\n' for sentence in (legend.READ if isinstance(report, Judged) else legend.REFUSED))
+    sentences = legend.of(report.unit) if isinstance(report, Judged) else legend.REFUSED
+    lines = ''.join(element('li', marked(sentence)) + '\n' for sentence in sentences)
     return section('l', 'In plain words', element('ul', lines), 'legend keep')
 
 

@@ -73,12 +73,13 @@ def _group(rows: List[Row], kind: str, title: str) -> str:
     return f'<tr role="row">{named}</tr>\n' + ''.join(_row(row, kind) for row in ordered) if rows else ''
 
 
-def index_page(folder: str, rows: List[Row]) -> str:
-    """The whole index."""
+def index_page(folder: str, rows: List[Row], part: Optional[str] = None) -> str:
+    """The whole index; of an older part's units, if that was named."""
     heads = ''.join(f'<th role="columnheader" scope="col">{name}</th>' for name in COLUMNS)
     body = ''.join(_group([row for row in rows if row.status in statuses], kind, title) for kind, title, _, statuses in GROUPS)
     table = ('<table class="list stack" role="table"><caption>The bad ones first. A unit\'s name leads to its page.</caption>'
              f'<thead role="rowgroup"><tr role="row">{heads}</tr></thead><tbody role="rowgroup">{body}</tbody></table>')
     title = f'Bench sign-out: all recordings of {folder}'
-    content = _tally(rows) + section('e', 'Verdict of each', table) + element('p', READY_MEANS, 'foot')
+    means = READY_MEANS + (f' The chips are read as {part}; at the end no run of theirs is unfinished.' if part else '')
+    content = _tally(rows) + section('e', 'Verdict of each', table) + element('p', means, 'foot')
     return document(title, title, head(title, neighbours.version(), 'h1') + content)

@@ -16,7 +16,7 @@ VERDICTS = ('ready', 'not ready', 'refused')
 
 def _finding(finding: Finding) -> Dict[str, Any]:
     return {'cause': finding.cause, 'text': plain(finding.sentence), 'registers': [place(address) for address in finding.addresses],
-            'samples': [event.at for event in finding.events]}
+            'samples': finding.places()}
 
 
 def _row(row: Row) -> Dict[str, Any]:
@@ -37,12 +37,13 @@ def as_object(report: Union[Judged, Refused]) -> Dict[str, Any]:
         'reasons': [_finding(finding) for finding in report.verdict.reasons],
         'remarks': [_finding(finding) for finding in report.verdict.remarks],
         'date': report.filled.date, 'technician': report.filled.technician, 'recording': _recording(report.capture),
-        'table': {'file': report.unit.file, 'sha256': report.unit.sha256},
+        'part': report.unit.part, 'table': {'file': report.unit.file, 'sha256': report.unit.sha256},
         'map_sha256': hashlib.sha256(report.unit.map).hexdigest()}
     if isinstance(report, Refused):
         return {**told, 'refused': report.refusal.number, 'bad_sample': report.refusal.at}
     reading = report.reading
-    return {**told, 'begins_high': reading.begins_high(), 'ends_high': reading.ends_high(), 'counts': report.counts,
+    return {**told, 'begins_high': reading.begins_high(), 'ends_high': reading.ends_high(), 'ends_in_run': reading.session.stalled,
+            'counts': report.counts,
             'registers': [_row(row) for row in report.rows],
             'stages': {'active': reading.active.hex(), 'buffer': reading.buffer.hex()},
             'frames': [[frame.start, frame.end] for frame in reading.frames],

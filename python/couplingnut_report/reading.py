@@ -51,20 +51,26 @@ class Event:
 
 @dataclass
 class Frame:
-    """The samples while the select was low: the first, the first after them (none if the recording ends in it), the session just before
-    the end, and what passed."""
+    """The samples while the select was low: the first, the first after them (none if the recording ends in it), the sessions before it,
+    just before its end and after it, and what passed. An older chip's run may go on from frame to frame: it stalls between them."""
     start: int
     end: Optional[int]
+    before: cn.Session
     last: cn.Session
+    after: cn.Session
     events: List[Event] = field(default_factory=list)
 
     def took_no_bit(self) -> bool:
         """Whether the clock never rose in it."""
-        return not self.events and self.last.phase == 'instruction' and self.last.bits == 0
+        return not self.events and self.last.bits == 0 and (self.last.phase == 'instruction' or self.before.stalled)
 
     def carried_no_byte(self) -> bool:
-        """Whether it ended right after its command."""
-        return not self.events and self.last.phase == 'data' and self.last.bits == 0
+        """Whether it ended right after its command, and was the end of the run too."""
+        return not (self.events or self.before.stalled or self.after.stalled) and self.last.phase == 'data' and self.last.bits == 0
+
+    def led_nowhere(self) -> bool:
+        """Of an older chip: whether its command named an address above the top, so that bits are passed over, and none was a byte."""
+        return not self.events and self.last.phase == 'rest'
 
 
 @dataclass(frozen=True)
@@ -97,7 +103,11 @@ class Reading:
 
     def ends_high(self) -> bool:
         """Whether the select is high at the end."""
-        return bool(self.capture.samples) and self.session.phase == 'rest'
+        return bool(self.capture.samples) and self.session.last_csb == 1
+
+    def is_open(self, frame: Frame) -> bool:
+        """Whether the recording ends before the frame does, or the older chip's run that stalls after it."""
+        return frame.end is None or frame is self.frames[-1] and self.session.stalled
 
 
 @dataclass(frozen=True)
@@ -124,9 +134,9 @@ class _Reader:
     """The library with the session and the banks of one recording."""
 
     def __init__(self, unit: Unit, samples: bytes):
-        self.map, self.samples, self.at = unit.map, samples, 0
+        self.map, self.part, self.samples, self.at = unit.map, unit.part, samples, 0
         self.active, self.buffer = cn.banks(unit.map)
-        self.session = cn.open(unit.map, self.active, self.buffer)
+        self.session = cn.open(unit.map, self.active, self.buffer, part=unit.part)
         self.touched = cn.touched_words(unit.map)
 
     def up_to(self, end: int) -> Iterator[Event]:
@@ -134,23 +144,30 @@ class _Reader:
         while self.at < end:
             piece = self.samples[self.at:min(end, self.at + PIECE)]
             before, active = self.session, bytes(self.active)
-            self.session, record, taken = cn.next_record(self.map, self.session, self.active, self.buffer, piece, touched=self.touched)
+            self.session, record, taken = cn.next_record(self.map, self.session, self.active, self.buffer, piece, part=self.part,
+                                                         touched=self.touched)
             self.at += taken
             if record is not None:
                 moves = record.kind == WRITE and record.byte5 == TRANSFER
                 came = sum(old != new for old, new in zip(active, self.active)) if moves else 0
                 yield Event(record, self.at - 1, self.session.settings.buffer_readback, came, before)
 
+    def between(self, end: int) -> cn.Session:
+        """Reads on to this sample with the select high, where nothing is recorded."""
+        for event in self.up_to(end):
+            raise AssertionError(f'a record with the select high: {event}')
+        return self.session
+
 
 def _read_frames(reader: _Reader) -> List[Frame]:
     frames, length = [], len(reader.samples)
     for start, end in frames_of(reader.samples):
-        before = list(reader.up_to(length if end is None else end))
-        frame = Frame(start, end, reader.session, before)
-        frame.events += reader.up_to(length if end is None else end + 1)
-        frames.append(frame)
-    for event in reader.up_to(length):
-        raise AssertionError(f'a record with the select high: {event}')
+        before = reader.between(start)
+        events = list(reader.up_to(length if end is None else end))
+        last = reader.session
+        events += reader.up_to(length if end is None else end + 1)
+        frames.append(Frame(start, end, before, last, reader.session, events))
+    reader.between(length)
     return frames
 
 
@@ -160,7 +177,7 @@ def read(unit: Unit, capture: Capture) -> Union[Reading, Refusal]:
     bad = _BAD.search(capture.samples)
     try:
         if bad:
-            cn.read(unit.map, reader.session, reader.active, reader.buffer, bad[0])
+            cn.read(unit.map, reader.session, reader.active, reader.buffer, bad[0], part=unit.part)
         frames = _read_frames(reader)
     except cn.Refused as refused:
         return Refusal(unit, capture, refused.number, cn.message(refused.number), bad.start() if bad else None)

@@ -100,7 +100,10 @@ class Judged(Report):
             return 'NO', 'the select never went low'
         levels = (('begins', self.reading.begins_high()), ('ends', self.reading.ends_high()))
         low = [words for words, high in levels if not high]
-        return ('NO', f'{" and ".join(low)} with the select low') if low else ('Yes', 'begins and ends with the select high')
+        if low:
+            return 'NO', f'{" and ".join(low)} with the select low'
+        return ('NO', 'ends in a run that is not finished') if self.reading.session.stalled else (
+            'Yes', 'begins and ends with the select high')
 
 
 @dataclass(frozen=True)
@@ -134,10 +137,12 @@ def _refused(refusal: Refusal) -> Finding:
                              f' has a level on {lines} ({short(level)}); a sample has the chip\'s four lines and no other.'])
 
 
-def chip(unit: Unit) -> str:
-    """What the map says of the chip."""
+def chip(unit: Unit) -> Tuple[str, str]:
+    """What is known of the chip, and from where: an older part is named by the user, and a newer chip's map has its product number."""
+    if unit.part is not None:
+        return 'Chip, as named', f'{unit.part}, highest address {place(unit.size - 1)}'
     low, high, grade = (unit.register(address).default for address in (PRODUCT_LOW, PRODUCT_HIGH, GRADE))
-    return f'Product {place(high * 256 + low)}, grade {short(grade)}'
+    return 'Chip, by the map', f'Product {place(high * 256 + low)}, grade {short(grade)}'
 
 
 def named_counts(report: Judged) -> List[Tuple[str, int]]:

@@ -18,6 +18,7 @@ from .captures import Wish, read_capture
 from .htmlpage import html_page
 from .indexpage import Row, index_page
 from .jsonpage import as_object
+from .parts import Chip
 from .sentences import marked, readable
 from .unit import read_unit
 
@@ -39,7 +40,7 @@ class Folder:
     to_output: bool
     wish: Wish
     filled: report.Filled
-    flags: Optional[int]
+    chip: Chip
 
 
 @dataclass(frozen=True)
@@ -99,7 +100,7 @@ def _made(task: _Task) -> _Done:
     folder = task.folder
     if task.table is None:
         raise ends.Wrong(f'no table of the folder has a name that {task.file} begins with, and none was given')
-    unit = read_unit(task.table, task.unit, folder.flags)
+    unit = read_unit(task.table, task.unit, folder.chip)
     made = report.make(unit, read_capture(os.path.join(folder.path, task.file), folder.wish), folder.filled)
     if folder.out is not None:
         output.write_file(os.path.join(folder.out, task.page), html_page(made))
@@ -175,7 +176,7 @@ def make_site(folder: Folder) -> int:
     if folder.out is not None:
         name = os.path.basename(os.path.abspath(folder.path))
         output.write_file(os.path.join(folder.out, LINES_FILE), lines)
-        output.write_file(os.path.join(folder.out, INDEX_FILE), index_page(name, [item.row for item in done]))
+        output.write_file(os.path.join(folder.out, INDEX_FILE), index_page(name, [item.row for item in done], folder.chip.part))
     output.write_out(lines if folder.to_output else summary([item.row for item in done]))
     return max(item.row.status for item in done)
 

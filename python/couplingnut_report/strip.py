@@ -23,13 +23,15 @@ LEAST_WIDTH = 4
 TICKS = 9
 
 
-def kind_of(frame: Frame) -> str:
+def kind_of(reading: Reading, frame: Frame) -> str:
     """What a frame is shown as: the most serious thing in it."""
     tests = ((BROKEN, lambda event: event.is_cut()), (RESETS, lambda event: event.is_write(RESET)),
              (TRANSFERS, lambda event: event.is_write(TRANSFER)), (IGNORES, lambda event: event.is_write(IGNORED)),
              (DIFFERS, lambda event: event.disagrees()), (READS, lambda event: event.record.kind == READ))
-    if frame.end is None:
+    if reading.is_open(frame):
         return OPEN
+    if not frame.events and frame.after.stalled and not frame.took_no_bit():
+        return READS if frame.last.direction == 1 else WRITES
     if not frame.events:
         return EMPTY
     return next((kind for kind, test in tests if any(map(test, frame.events))), WRITES)
@@ -144,16 +146,16 @@ def _blocks(reading: Reading, axis: _Axis) -> List[str]:
     """The frames; where many stand in one place, each kind once."""
     shown: Dict[Tuple[int, str], str] = {}
     for frame in reading.frames:
-        kind, x = kind_of(frame), axis.x(frame.start)
+        kind, x = kind_of(reading, frame), axis.x(frame.start)
         key = (int(x / 100 * COLUMNS), kind)
         if key not in shown:
             shown[key] = _placed(x, _block(kind, _width(frame, axis)))
     return list(shown.values())
 
 
-def _number_place(frame: Frame, axis: _Axis) -> Tuple[float, int]:
+def _number_place(reading: Reading, frame: Frame, axis: _Axis) -> Tuple[float, int]:
     """Where a reason's number stands beside a frame: how far from its start, and how high."""
-    kind, middle = kind_of(frame), _width(frame, axis) / 2
+    kind, middle = kind_of(reading, frame), _width(frame, axis) / 2
     if kind == DIFFERS:
         return -11, 48
     return middle + {BROKEN: -17, TRANSFERS: -17, RESETS: 17}.get(kind, 0), 9
@@ -164,7 +166,7 @@ def _numbers(reading: Reading, axis: _Axis, marks: Sequence[Tuple[int, int]]) ->
     placed = []
     for sample, reason in marks:
         frame = next(frame for frame in reading.frames if frame.start <= sample and (frame.end is None or sample <= frame.end))
-        aside, y = _number_place(frame, axis)
+        aside, y = _number_place(reading, frame, axis)
         placed.append((axis.x(frame.start) * PIXELS + aside, y, axis.x(frame.start), reason))
     parts: List[str] = []
     ends: Dict[int, float] = {}
@@ -180,7 +182,7 @@ def _numbers(reading: Reading, axis: _Axis, marks: Sequence[Tuple[int, int]]) ->
 def strip(reading: Reading, marks: Sequence[Tuple[int, int]]) -> str:
     """The strip; `marks` are samples with the number of the reason that they belong to."""
     axis = _Axis(reading)
-    kinds = [kind_of(frame) for frame in reading.frames]
+    kinds = [kind_of(reading, frame) for frame in reading.frames]
     told = ', '.join(f'{number(kinds.count(kind))} {words}' for kind, words in KEY.items() if kind in kinds)
     described = f'{counted(len(kinds), "frame")}: {told}. The lists beside it give each place.'
     parts = _baseline(axis) + _blocks(reading, axis) + _numbers(reading, axis, marks) + _ticks(axis)

@@ -35,7 +35,7 @@ def _facts(report: Report) -> List[str]:
     if capture.rate:
         length += f', {seconds(len(capture.samples), capture.rate)} at {number(capture.rate)} a second'
     known = [('Recorded', report.filled.date or '.' * 24), ('Technician', report.filled.technician or '.' * 24),
-             ('Chip, by the map', chip(unit)), ('Recording', capture.file), ('  SHA-256', capture.sha256),
+             chip(unit), ('Recording', capture.file), ('  SHA-256', capture.sha256),
              ('Map and wanted', unit.file), ('  SHA-256', unit.sha256), ('Length', length),
              ('Lines', ', '.join(f'{CALLED[line]} {name}' for line, name in capture.lines.items()))]
     if isinstance(report, Judged):
@@ -109,5 +109,5 @@ def text_page(report: Report) -> str:
         lines += _section('Counts', [f'{number(count):>9} {name}' for name, count in named_counts(report)])
     else:
         lines += _section('Registers written', ['Not known, since the recording was refused.'])
-    words = [plain(sentence) for sentence in (legend.READ if isinstance(report, Judged) else legend.REFUSED)]
+    words = [plain(sentence) for sentence in (legend.of(report.unit) if isinstance(report, Judged) else legend.REFUSED)]
     return '\n'.join(lines + _section('In plain words', words) + _signature(report)) + '\n'

@@ -10,10 +10,9 @@ import os
 from dataclasses import dataclass
 from typing import Dict, Optional
 
-import couplingnut as cn
-
 from . import neighbours
 from .ends import Unreadable, Wrong
+from .parts import Chip, test_map
 from .sentences import place, readable, short
 
 BLANK, READ_ONLY, PLAIN, BUFFERED, CONTROL, ABSENT = 'blank', 'read-only', 'plain', 'buffered', 'control', 'absent'
@@ -40,13 +39,14 @@ class Register:
 
 @dataclass(frozen=True)
 class Unit:
-    """A unit's table, and its map for the library."""
+    """A unit's table, and its map for the library; of an older chip the part, whose top is the map's last address."""
     name: str
     file: str
     sha256: str
     map: bytes
     size: int
     listed: Dict[int, Register]
+    part: Optional[str] = None
 
     def register(self, address: int) -> Register:
         """The register at an address; those that the table leaves out are blank, and beyond the map there is none."""
@@ -77,12 +77,12 @@ def _register_of(line) -> Register:
     return Register(line.address, line.kind, line.default, name.strip(), _wanted_of(line, rest.strip()))
 
 
-def unit_of(data: bytes, file: str, name: str, flags: Optional[int] = None) -> Unit:
+def unit_of(data: bytes, file: str, name: str, chip: Chip = Chip()) -> Unit:
     """The unit that a table's bytes describe; every line that is wrong is told."""
     mkmap = neighbours.mkmap()
     try:
         lines = mkmap.registers_of(data)
-        mkmap.check_rules(lines, flags)
+        mkmap.check_rules(lines, chip.flags, chip.part)
     except mkmap.Bad as bad:
         raise Wrong('\n'.join(f'{file}: {words}' for words in str(bad).split('\n'))) from None
     listed, wrong = {}, []
@@ -93,15 +93,12 @@ def unit_of(data: bytes, file: str, name: str, flags: Optional[int] = None) -> U
             wrong.append(f'{file}: line {line.line}: {bad}')
     if wrong:
         raise Wrong('\n'.join(wrong))
-    map_bytes = mkmap.map_of(lines, flags)
-    try:
-        cn.map_test(map_bytes)
-    except cn.Refused as refused:
-        raise Wrong(f'{file}: {refused}') from None
-    return Unit(name, file, hashlib.sha256(data).hexdigest(), map_bytes, lines[-1].address + 1, listed)
+    map_bytes, size = mkmap.map_of(lines, chip.flags), lines[-1].address + 1
+    test_map(map_bytes, chip, file, size)
+    return Unit(name, file, hashlib.sha256(data).hexdigest(), map_bytes, size, listed, chip.part)
 
 
-def read_unit(path: str, name: Optional[str] = None, flags: Optional[int] = None) -> Unit:
+def read_unit(path: str, name: Optional[str] = None, chip: Chip = Chip()) -> Unit:
     """The unit of a file; its name is the file's, unless another is given."""
     try:
         with open(path, 'rb') as source:
@@ -109,4 +106,4 @@ def read_unit(path: str, name: Optional[str] = None, flags: Optional[int] = None
     except OSError as error:
         raise Unreadable(f'{path}: {error.strerror}') from None
     file = readable(os.path.basename(path))
-    return unit_of(data, file, name or os.path.splitext(file)[0], flags)
+    return unit_of(data, file, name or os.path.splitext(file)[0], chip)

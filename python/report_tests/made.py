@@ -10,7 +10,7 @@ ROOT = os.path.normpath(os.path.join(HERE, '..', '..'))
 sys.path.insert(0, os.path.join(ROOT, 'python'))
 
 import couplingnut as cn  # noqa: E402 (the module of this tree)
-from couplingnut_report import captures, report, unit  # noqa: E402
+from couplingnut_report import captures, parts, report, unit  # noqa: E402
 from couplingnut_report.sentences import plain  # noqa: E402,F401 (for the tests)
 
 IDLE = b'\x01' * 6
@@ -32,6 +32,16 @@ TABLE = HEAD + """0010 buffered  FF 16  Channel, low byte | 2D
 0019 plain     0F 08  Standby level
 """
 TRANSFER, RESET = (0x000F, 0x01), (0x0000, 0x81)
+# The older parts, each with addresses up to 0x002C.
+TOP = 0x2C
+OLDER_HEAD = {'AD9557': '0000 control 00 00  Serial port\n0004 control 00 00  Read back\n0005 control 00 00  Update\n',
+              'AD9508': '0000 control 00 00  Serial port\n0004 plain FF 00  Spare\n0005 control 00 00  Update\n'}
+OLDER_BODY = """0010 buffered  FF 16  Divider A | 22
+0015 plain     FF 40  Divider B | 10
+0016 plain     FF 00  Phase |
+002C read-only 00 05  Chip
+"""
+OLDER_TABLES = {part: head + OLDER_BODY for part, head in OLDER_HEAD.items()}
 
 
 def write(address, *data):
@@ -41,12 +51,34 @@ def write(address, *data):
 
 def read(address, *answers, line=2):
     """The frame of a read run, with what the chip answers on one line."""
-    samples = bytearray(cn.send(cn.READ, 0, address, len(answers)))
+    return answered(cn.send(cn.READ, 0, address, len(answers)), answers, line)
+
+
+def answered(sent, answers, line):
+    """The frame of a read run with these answers."""
+    samples = bytearray(sent)
     bits = [byte >> bit & 1 for byte in answers for bit in range(7, -1, -1)]
     for at, bit in enumerate(bits):
         samples[33 + 2 * at] |= bit << line
         samples[34 + 2 * at] |= bit << line
     return bytes(samples) + IDLE
+
+
+def older(address, *data, settings=0, top=TOP):
+    """The frame of a write run to an older chip; addresses go down, or with LSB_FIRST up."""
+    return cn.send(cn.WRITE, settings, address, len(data), bytes(data), part=cn.PARTS[0], top=top) + IDLE
+
+
+def older_read(address, *answers):
+    """The frame of a read run of an older chip, which answers on the data line."""
+    return answered(cn.send(cn.READ, 0, address, len(answers), part=cn.PARTS[0], top=TOP), answers, 2)
+
+
+def stalled(frame, *places):
+    """A counted run in frames: the select is high before these of its bytes, counted from 0."""
+    starts = [0] + [33 + 16 * place for place in places]
+    pieces = [frame[start:end] for start, end in zip(starts, starts[1:] + [len(frame)])]
+    return [(b'\0' if at else b'') + piece + (IDLE if at < len(pieces) - 1 else b'') for at, piece in enumerate(pieces)]
 
 
 def cut(frame, bits):
@@ -65,14 +97,19 @@ def capture(samples, rate=None, file='made.samples'):
     return captures.Capture(file, '0' * 64, bytes(samples), rate, {'csb': 'D0', 'sclk': 'D1', 'sdio': 'D2', 'sdo': 'D3'})
 
 
-def made_unit(table=TABLE, name='CT-1', flags=None):
+def made_unit(table=TABLE, name='CT-1', flags=None, part=None):
     """The unit of a table."""
-    return unit.unit_of(table.encode(), f'{name}.txt', name, flags)
+    return unit.unit_of(table.encode(), f'{name}.txt', name, parts.Chip(flags, part))
 
 
-def reported(samples, table=TABLE, rate=1_000_000, flags=None):
+def older_unit(part):
+    """The unit of an older part's table."""
+    return made_unit(OLDER_TABLES[part], part=part)
+
+
+def reported(samples, table=TABLE, rate=1_000_000, flags=None, part=None):
     """The report of a recording."""
-    return report.make(made_unit(table, flags=flags), capture(samples, rate), report.Filled())
+    return report.make(made_unit(table, flags=flags, part=part), capture(samples, rate), report.Filled())
 
 
 def oversampled(samples, times, jitter=0, seed=1):

@@ -13,6 +13,7 @@ WRITE, READ, CUT = 1, 2, 3
 EFFECTS = {0: 'ignored', 1: 'in force', 2: 'waits', 3: 'setting', 4: 'transfer', 5: 'soft reset'}
 COLUMN = '|'
 PIECE = 4096  # samples for one call
+BAD_TOP = 12  # the library's number for a top that does not fit
 
 
 class Unusable(Exception):
@@ -57,28 +58,52 @@ def _read(path):
         raise Unusable(f'{path}: {error.strerror}') from None
 
 
-class Chip:
-    """A chip as the library sees it, from its opening on."""
+def _top_of(text):
+    """The top that the option names, if it does."""
+    try:
+        return int(text, 16) if text else None
+    except ValueError:
+        raise Unusable(f'the option "top" is an address in hexadecimal, as 2C, and not "{text}"') from None
 
-    def __init__(self, path):
+
+class Chip:
+    """A chip as the library sees it, from its opening on: a newer one, or an older part, whose top is the map's last address."""
+
+    def __init__(self, path, part='', top=''):
         self.library = _library()
-        data, self.names = _read(path), {}
+        if part and part not in self.library.PARTS:
+            raise Unusable(f'the option "part" is {" or ".join(self.library.PARTS)}, and not "{part}"; leave it empty for every other chip')
+        if top and not part:
+            raise Unusable('the option "top" goes with the option "part"')
+        self.part, self.top, self.names = part or None, _top_of(top), {}
+        data = _read(path)
         try:
-            self.library.map_test(data)
+            self._test(path, data)
         except self.library.Refused:
             data = self._made(path, data)
         self.map = data
         self.active, self.buffer = self.library.banks(data)
-        self.session = self.library.open(data, self.active, self.buffer)
+        self.session = self.library.open(data, self.active, self.buffer, part=self.part)
+
+    def _test(self, path, data):
+        """The library's map test; a good map with another top than the option names is not usable."""
+        try:
+            self.library.map_test(data, part=self.part, top=self.top)
+        except self.library.Refused as refused:
+            if refused.number == BAD_TOP:
+                last = len(self.library.banks(data)[0]) - 1
+                raise Unusable(f'{os.path.basename(path)}: its last address is 0x{last:04X}, and not 0x{self.top:04X} as the option "top" '
+                               'says') from None
+            raise
 
     def _made(self, path, data):
         """The map of a table, whose names are kept."""
         mkmap = _mkmap()
         try:
             lines = mkmap.registers_of(data)
-            mkmap.check_rules(lines)
+            mkmap.check_rules(lines, part=self.part)
             made = mkmap.map_of(lines)
-            self.library.map_test(made)
+            self._test(path, made)
         except mkmap.Bad as bad:
             raise Unusable(f'{os.path.basename(path)}: {str(bad).splitlines()[0]}') from None
         except self.library.Refused as refused:
@@ -90,7 +115,8 @@ class Chip:
         """The record that these samples complete, or none. They are handed over as soon as there can be one, so none are left."""
         record = None
         while samples and record is None:
-            self.session, record, taken = self.library.next_record(self.map, self.session, self.active, self.buffer, samples[:PIECE])
+            self.session, record, taken = self.library.next_record(self.map, self.session, self.active, self.buffer, samples[:PIECE],
+                                                                   part=self.part)
             samples = samples[taken:]
         assert not samples
         return record

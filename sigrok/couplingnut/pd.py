@@ -33,7 +33,11 @@ class Decoder(srd.Decoder):
         {'id': 'sdio', 'name': 'SDIO', 'desc': 'Data to the chip, and with three wires from it'},
     )
     optional_channels = ({'id': 'sdo', 'name': 'SDO', 'desc': 'Answers of the chip'},)
-    options = ({'id': 'map', 'desc': 'Table of the unit, or its map', 'default': ''},)
+    options = (
+        {'id': 'map', 'desc': 'Table of the unit, or its map', 'default': ''},
+        {'id': 'part', 'desc': 'Older chip, if it is one', 'default': '', 'values': ('', 'AD9557', 'AD9508')},
+        {'id': 'top', 'desc': 'Highest address of the older chip', 'default': ''},
+    )
     annotations = (
         ('command', 'Command'), ('byte', 'Byte'), ('in-force', 'In force'), ('waits', 'Waits'), ('other', 'Setting, transfer or reset'),
         ('ignored', 'Ignored write'), ('broken', 'Broken off'), ('mismatch', 'Read disagreed'), ('note', 'Note'),
@@ -62,7 +66,7 @@ class Decoder(srd.Decoder):
         """Collects the samples at which the select or, with the select low, the clock changes: by the rules (docs/RULES.md, "Samples and
         edges") the others do nothing. They go to the library as soon as a command or a byte can be whole, or the select has risen."""
         try:
-            self.chip = Chip(self.options['map'])
+            self.chip = Chip(self.options['map'], self.options['part'], self.options['top'])
         except Unusable as unusable:
             self._tell_only(str(unusable))
         pins = self.wait({'skip': 0})
@@ -89,13 +93,17 @@ class Decoder(srd.Decoder):
 
     def _hand_over(self):
         """Has the library read what was collected, and shows what that completed."""
-        before = self.chip.session.phase
+        before = self.chip.session
         record = self.chip.next_record(bytes(self.samples[self.handed:]))
         session = self.chip.session
+        if before.stalled and not session.stalled:
+            self._show_command('goes on: ', before)
         if record is not None:
             self._show(record)
-        elif before != 'data' and session.phase == 'data':
-            self._show_command()
+        elif before.phase != 'data' and session.phase == 'data':
+            self._show_command('', session)
+        elif before.last_csb == 1 and session.phase == 'rest' and session.last_csb == 0:
+            self._put(*self._span(), IGNORED, ['command to an address that the chip does not have: passed over', 'passed over'])
         # The last sample stays, since the next one may rise from it.
         self.samples, self.places, self.handed = self.samples[-1:], self.places[-1:], 1
         self.missing = (COMMAND_BITS if session.phase != 'data' else BYTE_BITS) - session.bits
@@ -109,11 +117,11 @@ class Decoder(srd.Decoder):
     def _put(self, start, end, kind, words):
         self.put(start, end, self.out, [kind, words])
 
-    def _show_command(self):
-        session = self.chip.session
+    def _show_command(self, start, session):
+        """The command of a run, or that an older chip's run goes on after a stall."""
         word = 'read' if session.direction == 1 else 'write'
         names = self.chip.name(session.address)
-        self._put(*self._span(), COMMAND, [f'{word} {name}' for name in names] + [word[0].upper()])
+        self._put(*self._span(), COMMAND, [f'{start}{word} {name}' for name in names] + [word[0].upper()])
 
     def _show(self, record):
         """One record in its rows."""
