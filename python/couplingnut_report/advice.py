@@ -4,14 +4,17 @@ from __future__ import annotations
 from typing import Callable, Dict, List
 
 from . import facts
-from .findings import BROKEN, COMMAND, IGNORED_WRITE, NOWHERE, READ, RECORDING, WAITS, WANTED, Finding, is_read
+from .findings import BROKEN, COMMAND, CONTENDED, IGNORED_WRITE, NOWHERE, READ, RECORDING, WAITS, WANTED, Finding, is_read
 from .reading import RESET, TRANSFER, Reading
 from .report import Judged
-from .sentences import at_place, counted, number, short
+from .sentences import at_place, counted, number, short, value
 from .unit import ABSENT, BUFFERED, CONTROL, READ_ONLY, Register
 
-TITLES = {COMMAND: 'Broken off', BROKEN: 'Broken off', WAITS: 'Waits', READ: 'Read disagreed', IGNORED_WRITE: 'Ignored write',
+TITLES = {COMMAND: 'Broken off', BROKEN: 'Broken off', WAITS: 'Waits', READ: 'Read disagreed', CONTENDED: 'Read with another select low',
+          IGNORED_WRITE: 'Ignored write',
           NOWHERE: 'Address that the chip does not have', WANTED: 'Not as wanted', RECORDING: 'Recording not whole'}
+
+ALONE = 'see that one select is low at a time, in the setting list and by the wiring of the selects; then read again.'
 
 
 def title(report: Judged, finding: Finding) -> str:
@@ -37,7 +40,8 @@ def to_do(report: Judged, finding: Finding) -> str:
         return _to_do_for_many(finding)
     register = report.unit.register(finding.addresses[0])
     advices: Dict[str, Callable[[Reading, Register, Finding], str]] = {
-        BROKEN: _to_do_broken, WAITS: _to_do_waits, WANTED: _to_do_wanted, READ: _to_do_read, IGNORED_WRITE: _to_do_ignored}
+        BROKEN: _to_do_broken, WAITS: _to_do_waits, WANTED: _to_do_wanted, READ: _to_do_read, CONTENDED: _to_do_contended,
+        IGNORED_WRITE: _to_do_ignored}
     return advices[finding.cause](report.reading, register, finding)
 
 
@@ -53,7 +57,8 @@ def _to_do_recording(reading: Reading, finding: Finding) -> str:
 
 def _to_do_for_many(finding: Finding) -> str:
     return {BROKEN: 'send these settings again, with a transfer after those that need one.', WAITS: 'send a transfer.',
-            READ: 'check the wiring of the line that answers, then read again.', WANTED: 'send these values, and then a transfer.',
+            READ: 'check the wiring of the line that answers, then read again.', CONTENDED: ALONE,
+            WANTED: 'send these values, and then a transfer.',
             IGNORED_WRITE: 'correct the addresses in the setting list.'}[finding.cause]
 
 
@@ -83,6 +88,10 @@ def _to_do_read(_reading: Reading, _register: Register, _finding: Finding) -> st
     return 'check the wiring of the line that answers, then read again.'
 
 
+def _to_do_contended(_reading: Reading, _register: Register, _finding: Finding) -> str:
+    return ALONE
+
+
 def _to_do_ignored(_reading: Reading, register: Register, _finding: Finding) -> str:
     if register.kind == CONTROL:
         return 'send a byte to 0x0000 that reads the same from both ends.'
@@ -106,6 +115,10 @@ def details(report: Judged, finding: Finding) -> List[str]:
         return [_history(report, finding)]
     if finding.cause in (RECORDING, NOWHERE):
         return [f'In {"the frame that begins" if len(finding.starts) == 1 else "frames that begin"} at {", ".join(places)}{more}.']
+    if finding.cause == CONTENDED:
+        record = finding.events[0].record
+        carried = f'{value(record.byte3)} was due, and the line carried {value(record.byte4)}'
+        return [f'The byte was whole at {", ".join(places)}{more}. {carried}.']
     return [f'At {", ".join(places)}{more}.' + (' Nothing changed.' if finding.cause == IGNORED_WRITE else '')]
 
 

@@ -5,7 +5,7 @@ import html
 from typing import Optional, Sequence
 
 from . import advice, pictures
-from .findings import BROKEN, COMMAND, READ, RECORDING, WAITS, WANTED, Finding, bits_of, is_read, why_ignored
+from .findings import BROKEN, COMMAND, CONTENDED, READ, RECORDING, WAITS, WANTED, Finding, bits_of, is_read, selects_low, why_ignored
 from .markup import byte, element, section
 from .reading import RESET, Event
 from .report import Judged, Refused, is_milestone, looked_for, milestone
@@ -86,6 +86,10 @@ def _many(report: Judged, finding: Finding) -> str:
         return _table(('Register', 'Waiting', 'In force', 'Wanted'), [
             (html.escape(register.titled()), value(reading.buffer[register.address]), value(reading.active[register.address]),
              _or_dash(register.wanted)) for register in registers])
+    if finding.cause == CONTENDED:
+        return _table(('Register', 'Low too', 'When'), [
+            (html.escape(report.unit.register(event.record.address).titled()), html.escape(selects_low(event)),
+             at_place(event.low[0].at, report.capture.rate)) for event in finding.events])
     heads = ('Register', 'Due', 'Carried', 'When') if finding.cause == READ else ('Register', 'Sent', 'Why ignored', 'When')
     rows = []
     for event in finding.events:
@@ -102,6 +106,8 @@ def _picture(report: Judged, finding: Finding, register: Register) -> str:
         return pictures.waiting(report.reading.buffer[register.address], in_force)
     if finding.cause == WANTED:
         return pictures.two_bytes('in force', in_force, 'wanted', register.wanted or 0)
+    if finding.cause == CONTENDED:
+        return ''
     record = finding.events[0].record
     if finding.cause == READ:
         return pictures.two_bytes('due', record.byte3, 'carried', record.byte4)

@@ -19,7 +19,7 @@ from dataclasses import dataclass
 from typing import Dict, List, Mapping, Optional, Tuple
 
 from .ends import Unreadable, Wrong
-from .lines import LINES, lines_of, samples_of
+from .lines import LINES, lines_of, samples_of, selects_of
 from .sentences import readable
 
 RAW_END = '.samples'
@@ -32,20 +32,22 @@ RATES = {'hz': 1, 'khz': 10 ** 3, 'mhz': 10 ** 6, 'ghz': 10 ** 9, '': 1, 'k': 10
 
 @dataclass(frozen=True)
 class Wish:
-    """What the user said of a capture: names of lines, samples a second, sigrok-cli's input format."""
+    """What the user said of a capture: names of lines, samples a second, sigrok-cli's input format; of several chips their selects."""
     lines: Mapping[str, Optional[str]]
     rate: Optional[int] = None
     form: Optional[str] = None
+    selects: Tuple[str, ...] = ()
 
 
 @dataclass(frozen=True)
 class Capture:
-    """The samples of a recording, one byte each, with what is known of it."""
+    """The samples of a recording, one byte each, with what is known of it; and the selects of other chips that are read with this one."""
     file: str
     sha256: str
     samples: bytes
     rate: Optional[int]
     lines: Dict[str, str]
+    others: Tuple[str, ...] = ()
 
 
 def rate_of(text: str) -> Optional[int]:
@@ -68,17 +70,27 @@ def _contents(path: str) -> bytes:
         raise Unreadable(f'{"standard input" if path == STANDARD_INPUT else path}: {error.strerror}') from None
 
 
-def _raw(path: str, wish: Wish) -> Capture:
+def _chosen(channels: List[str], wish: Wish) -> List[Dict[str, int]]:
+    """The lines of each chip, by the places of their channels."""
+    return selects_of(channels, wish.lines, wish.selects) if wish.selects else [lines_of(channels, wish.lines)]
+
+
+def _raw(path: str, wish: Wish) -> List[Capture]:
     """Raw samples: as they are, or with lines by the names D0 to D7."""
     data = _contents(path)
     name = 'standard input' if path == STANDARD_INPUT else readable(os.path.basename(path))
-    bits = {line: bit for bit, line in enumerate(LINES)}
-    samples = data
-    if any(wish.lines.values()):
-        bits = lines_of(RAW_CHANNELS, wish.lines)
-        samples = samples_of(data, 1, bits)
-    lines = {line: RAW_CHANNELS[bit] for line, bit in bits.items()}
-    return Capture(name, hashlib.sha256(data).hexdigest(), samples, wish.rate, lines)
+    chips, samples = [{line: bit for bit, line in enumerate(LINES)}], [data]
+    if any(wish.lines.values()) or wish.selects:
+        chips = _chosen(RAW_CHANNELS, wish)
+        samples = [samples_of(data, 1, bits) for bits in chips]
+    lines = [{line: RAW_CHANNELS[bit] for line, bit in bits.items()} for bits in chips]
+    return _captures(name, hashlib.sha256(data).hexdigest(), samples, wish.rate, lines)
+
+
+def _captures(name: str, sha256: str, samples: List[bytes], rate: Optional[int], lines: List[Dict[str, str]]) -> List[Capture]:
+    """A capture for each chip, which knows the selects of the others."""
+    selects = [line['csb'] for line in lines]
+    return [Capture(name, sha256, samples[at], rate, lines[at], tuple(selects[:at] + selects[at + 1:])) for at in range(len(lines))]
 
 
 def _described(archive: zipfile.ZipFile) -> Mapping[str, str]:
@@ -105,21 +117,25 @@ def _pieces(archive: zipfile.ZipFile, stem: str) -> List[str]:
     return sorted(named, key=lambda name: int(name[len(stem) + 1:] or 0))
 
 
-def _session(path: str, wish: Wish) -> Tuple[bytes, Optional[int], Dict[str, str]]:
-    """Samples, rate and lines of a .sr file."""
+def _session(path: str, wish: Wish) -> Tuple[List[bytes], Optional[int], List[Dict[str, str]]]:
+    """Samples, rate and lines of a .sr file: samples and lines of each chip."""
     with zipfile.ZipFile(path) as archive:
         device = _described(archive)
         channels = _channels(device)
         width = int(device.get('unitsize', '0'))
         if not channels or width < 1:
             raise Wrong('the capture has no logic channels')
-        lines = lines_of([name for name, _ in channels], wish.lines)
-        bits = {line: channels[at][1] for line, at in lines.items()}
-        if max(bits.values()) >= 8 * width:
+        lines = _chosen([name for name, _ in channels], wish)
+        bits = [{line: channels[at][1] for line, at in chip.items()} for chip in lines]
+        if max(bit for chip in bits for bit in chip.values()) >= 8 * width:
             raise ValueError('a channel without samples')
-        pieces = _pieces(archive, device.get('capturefile', 'logic-1'))
-        samples = b''.join(samples_of(archive.read(name), width, bits) for name in pieces)
-    return samples, wish.rate or rate_of(device.get('samplerate', '0')), {line: channels[at][0] for line, at in lines.items()}
+        samples: List[List[bytes]] = [[] for _ in bits]
+        for name in _pieces(archive, device.get('capturefile', 'logic-1')):
+            units = archive.read(name)
+            for chip, places in zip(samples, bits):
+                chip.append(samples_of(units, width, places))
+    named = [{line: channels[at][0] for line, at in chip.items()} for chip in lines]
+    return [b''.join(chip) for chip in samples], wish.rate or rate_of(device.get('samplerate', '0')), named
 
 
 def _header(path: str) -> List[str]:
@@ -141,7 +157,12 @@ def _converted(path: str, to: str, wish: Wish) -> None:
 
 
 def read_capture(path: str, wish: Wish) -> Capture:
-    """The capture of a file, or of standard input."""
+    """The capture of a file, or of standard input, with one chip."""
+    return read_captures(path, wish)[0]
+
+
+def read_captures(path: str, wish: Wish) -> List[Capture]:
+    """The capture of a file, or of standard input: of several chips once for each, with its select."""
     if path == STANDARD_INPUT or path.lower().endswith(RAW_END):
         return _raw(path, wish)
     sha256 = hashlib.sha256(_contents(path)).hexdigest()
@@ -156,4 +177,4 @@ def read_capture(path: str, wish: Wish) -> Capture:
             raise Wrong(f'{path}: {wrong}') from None
         except DAMAGED as error:
             raise Unreadable(f'{path}: this is no whole capture of sigrok ({error})') from None
-    return Capture(readable(os.path.basename(path)), sha256, samples, rate, lines)
+    return _captures(readable(os.path.basename(path)), sha256, samples, rate, lines)

@@ -4,10 +4,10 @@ from __future__ import annotations
 import argparse
 import os
 import sys
-from typing import Callable, Dict, List, NoReturn, Optional, Union
+from typing import Callable, Dict, List, NoReturn, Optional, Tuple, Union
 
 from . import ends, follow, neighbours, output, report, site
-from .captures import RAW_END, STANDARD_INPUT, Wish, rate_of, read_capture
+from .captures import RAW_END, STANDARD_INPUT, Wish, rate_of, read_captures
 from .htmlpage import html_page
 from .jsonpage import json_page
 from .lines import CALLED, LINES
@@ -21,6 +21,7 @@ ENDINGS = {'.txt': 'text', '.json': 'json', '.html': 'html', '.htm': 'html'}
 TOOLS = {'read': ('busread', 'say what passed on the lines, record by record'),
          'send': ('bussend', 'make the samples of a run or of a whole setup'),
          'map': ('mkmap', 'make a register map from a table, and back')}
+BETWEEN = '\n' + '=' * 110 + '\n\n'  # two pages of text
 STATUSES = 'Status: 0 ready to sign, 1 not ready, 2 refused or a wrong command, 3 input or output failed.'
 
 
@@ -30,6 +31,13 @@ def _add_lines(parser: argparse.ArgumentParser) -> None:
     for line in LINES:
         group.add_argument(f'--{line}', metavar='NAME', action='append' if line == 'csb' else 'store',
                            help=f'the channel of the {CALLED[line]} line; else it is found by a usual name')
+
+
+def _add_selects(parser: argparse.ArgumentParser) -> None:
+    """What --csb means where it may be given for each of several chips."""
+    parser.add_argument_group('several chips of the same table in one capture', '--csb NAME for each select, up to eight: a page a chip, '
+                              'named after its select. With -o they go into that folder, with an index; else they follow one another as '
+                              'text, or with --json as a line each. The status is the highest of theirs.')
 
 
 def _add_part(parser: argparse.ArgumentParser) -> None:
@@ -44,11 +52,13 @@ def _report_parser(commands) -> None:
         'report', allow_abbrev=False, help='say whether a unit may be signed out, and why not', epilog=STATUSES,
         description='Reads the capture of a unit\'s set-up by the proved library and makes a page: the verdict, what needs attention, '
         'and every register that was written.',
-        usage='couplingnut report [OPTION..] UNIT.txt CAPTURE\n       couplingnut report [OPTION..] --all FOLDER [UNIT.txt] [-o SITE]')
+        usage='couplingnut report [OPTION..] UNIT.txt CAPTURE\n       couplingnut report [OPTION..] --all FOLDER [UNIT.txt] [-o SITE]\n'
+        '       couplingnut report [OPTION..] --csb NAME --csb NAME .. UNIT.txt CAPTURE [-o FOLDER]')
     parser.add_argument('unit_table', nargs='?', metavar='UNIT.txt', help='the table of the unit: mkmap\'s, with names and wanted values')
     parser.add_argument('capture', nargs='?', metavar='CAPTURE',
                         help=f'a capture that sigrok reads, or raw samples ({RAW_END}, or - for standard input)')
-    parser.add_argument('-o', dest='out', metavar='FILE', help='write the page here; its ending says which page. With --all: the folder')
+    parser.add_argument('-o', dest='out', metavar='FILE', help='write the page here; its ending says which page. With --all, or --csb for '
+                        'several chips: the folder')
     pages = parser.add_mutually_exclusive_group()
     for page in PAGES:
         pages.add_argument(f'--{page}', dest='page', action='store_const', const=page, help=f'make the page as {page}')
@@ -62,6 +72,7 @@ def _report_parser(commands) -> None:
     parser.add_argument('--flags', type=_flags, metavar='FLAGS', help='the flag byte of the unit\'s map, as mkmap takes it')
     _add_part(parser)
     _add_lines(parser)
+    _add_selects(parser)
     parser.set_defaults(run=_report)
 
 
@@ -100,16 +111,19 @@ def _flags(text: str) -> int:
         raise argparse.ArgumentTypeError(str(bad)) from None
 
 
+def _selects(words: argparse.Namespace) -> Tuple[str, ...]:
+    """The selects of several chips; none where there is one chip."""
+    return tuple(words.csb) if len(words.csb or []) > 1 else ()
+
+
 def _named(words: argparse.Namespace) -> Dict[str, Optional[str]]:
-    """The lines that the user has named. Several selects are several chips, which can't be read together yet."""
-    if len(words.csb or []) > 1:
-        raise ends.Wrong('--csb is given more than once: several chips in one capture can\'t be reported together yet; make a report '
-                         'for each select')
-    return {line: words.csb[0] if line == 'csb' and words.csb else getattr(words, line) or None for line in LINES}
+    """The lines that the user has named; of several selects none is the one."""
+    select = words.csb[0] if words.csb and not _selects(words) else None
+    return {line: select if line == 'csb' else getattr(words, line) or None for line in LINES}
 
 
 def _wish(words: argparse.Namespace) -> Wish:
-    return Wish(_named(words), words.rate, words.form)
+    return Wish(_named(words), words.rate, words.form, _selects(words))
 
 
 def _page_of(words: argparse.Namespace) -> str:
@@ -135,20 +149,38 @@ def _check(words: argparse.Namespace) -> None:
             raise ends.Wrong(f'-o names {given}, which is to be read')
 
 
+def _check_selects(words: argparse.Namespace) -> None:
+    """What is wrong with a command line that names several selects."""
+    if words.part is not None:
+        raise ends.Wrong('several selects are read together by the rules of the newer chips: with --part make a report for each --csb')
+    if words.all is not None:
+        return
+    if words.out not in (None, STANDARD_INPUT) and os.path.splitext(words.out)[1].lower() in ENDINGS:
+        raise ends.Wrong(f'several selects make a page each: -o names the folder for them, and {words.out} is the name of one page')
+    if words.out in (None, STANDARD_INPUT) and words.page == 'html':
+        raise ends.Wrong('several selects make a page each: name the folder for them with -o FOLDER')
+
+
 def _report(words: argparse.Namespace) -> int:
     _check(words)
+    if _selects(words):
+        _check_selects(words)
     wish, filled, chip = _wish(words), report.Filled(words.date, words.technician), chip_of(words.part, words.top, words.flags)
+    to_output = words.page == 'json'
     if words.all is not None:
-        to_output = words.page == 'json'
         return site.make_site(site.Folder(words.all, words.unit_table, words.out, words.jobs, to_output, wish, filled, chip))
+    if wish.selects and words.out not in (None, STANDARD_INPUT):
+        folder, file = os.path.split(words.capture)
+        return site.make_chips(site.Folder(folder, words.unit_table, words.out, 1, to_output, wish, filled, chip), file, words.unit or '')
     unit = read_unit(words.unit_table, words.unit, chip)
-    made = report.make(unit, read_capture(words.capture, wish), filled)
-    content = PAGES[_page_of(words)](made)
+    made = report.make_all(unit, read_captures(words.capture, wish), filled)
+    page = _page_of(words)
+    content = (BETWEEN if page == 'text' else '').join(PAGES[page](one) for one in made)
     if words.out in (None, STANDARD_INPUT):
         output.write_out(content)
     else:
         output.write_file(words.out, content)
-    return made.status()
+    return max(one.status() for one in made)
 
 
 def _tool(name: str, words: List[str]) -> NoReturn:
@@ -170,6 +202,8 @@ def _read_or_follow(words: List[str]) -> int:
             print('\nWithout --follow it is busread:\n', flush=True)
         _tool('read', words)
     asked = _follow_parser().parse_args([word for word in words if word != '--follow'])
+    if _selects(asked):
+        raise ends.Wrong('--csb is given more than once: read --follow reads one chip; `couplingnut report` reads several')
     return follow.follow(asked.map, asked.samples, _named(asked), chip_of(asked.part, asked.top))
 
 

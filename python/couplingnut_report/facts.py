@@ -10,7 +10,7 @@ from .reading import ACTIVE, IGNORED, READ, RESET, SETTING, TRANSFER, WAITING, W
 from .unit import BUFFERED, PLAIN, READ_ONLY, Register
 
 SLOW_ADDRESS, SLOW_BIT = 0x0001, 0x10
-RESETS = 'soft resets'  # as a page counts them
+RESETS, CONTENDED_READS = 'soft resets', 'reads with another select low'  # as a page counts them
 
 
 @dataclass
@@ -60,7 +60,7 @@ def confirmed(reading: Reading) -> Dict[int, int]:
                 found = _not_buffered(reading, found)
             elif event.is_write(ACTIVE, WAITING):
                 found.pop(event.record.address, None)
-            elif event.record.kind == READ and not event.disagrees() and not event.readback:
+            elif event.agrees() and not event.readback:
                 found[event.record.address] = event.at
         if frame.end is not None and frame.last.armed:
             found = _not_buffered(reading, found)
@@ -85,7 +85,7 @@ def rows(reading: Reading) -> List[Row]:
 
 
 def counts(reading: Reading) -> Dict[str, int]:
-    """How many of each kind there were; an older part has no soft reset."""
+    """How many of each kind there were; an older part has no soft reset, and a chip alone no other select."""
     events = list(reading.events())
     writes = [event.record.byte5 for event in events if event.record.kind == WRITE]
     found = {
@@ -95,6 +95,7 @@ def counts(reading: Reading) -> Dict[str, int]:
         'needing a transfer': writes.count(WAITING),
         'bytes read': sum(event.record.kind == READ for event in events),
         'reads that disagreed': sum(event.disagrees() for event in events),
+        CONTENDED_READS: sum(event.is_contended() for event in events),
         'transfers': writes.count(TRANSFER),
         RESETS: writes.count(RESET),
         'broken bytes': sum(event.is_cut() and event.in_data() for event in events),
@@ -102,7 +103,8 @@ def counts(reading: Reading) -> Dict[str, int]:
         'ignored writes': writes.count(IGNORED),
         'interface settings': writes.count(SETTING),
     }
-    return {name: count for name, count in found.items() if reading.unit.part is None or name != RESETS}
+    left_out = [RESETS] * (reading.unit.part is not None) + [CONTENDED_READS] * (not reading.capture.others)
+    return {name: count for name, count in found.items() if name not in left_out}
 
 
 def slow_requests(reading: Reading) -> List[Event]:

@@ -10,12 +10,12 @@ from typing import Dict, List, Sequence, Tuple
 
 from . import facts
 from .reading import IGNORED, Event, Reading
-from .sentences import Sentence, Strong, Value, Words, at_place, counted, number, place, some, when
+from .sentences import Sentence, Strong, Value, Words, at_place, counted, joined, number, place, some, when
 from .unit import ABSENT, BLANK, CONTROL, READ_ONLY, Register
 
 # Causes of a reason or a remark.
-COMMAND, BROKEN, WAITS, READ, IGNORED_WRITE, NOWHERE, WANTED, RECORDING, FRAME, SLOW = (
-    'command', 'broken', 'waits', 'read', 'ignored', 'nowhere', 'wanted', 'recording', 'frame', 'slow')
+COMMAND, BROKEN, WAITS, READ, CONTENDED, IGNORED_WRITE, NOWHERE, WANTED, RECORDING, FRAME, SLOW = (
+    'command', 'broken', 'waits', 'read', 'contended', 'ignored', 'nowhere', 'wanted', 'recording', 'frame', 'slow')
 # So many of a kind are told one by one; more share one reason, or are listed below the first of them.
 MANY = 3
 BITS = {True: 8, False: 16}
@@ -181,6 +181,25 @@ def _reads(reading: Reading) -> List[Finding]:
     return _gathered(reading, found, READ, 'reads of {} registers disagreed', 'What was due and what came is listed below.')
 
 
+def selects_low(event: Event) -> str:
+    """The other selects that were low in a contended read."""
+    names = joined([low.select for low in event.low])
+    return f'select {names} was' if len(event.low) == 1 else f'selects {names} were'
+
+
+def _contended(reading: Reading) -> List[Finding]:
+    """Reads with another chip's select low."""
+    found = []
+    for events in _by_register([event for event in reading.events() if event.is_contended()]):
+        register = reading.unit.register(events[0].record.address)
+        often = '' if len(events) == 1 else f' ({counted(len(events), "read")} like this; it is the first)'
+        where = at_place(events[0].low[0].at, reading.capture.rate)
+        words = [*_subject(register), f'while it was read, {selects_low(events[0])} low too, at {where}{often}; more than one chip may '
+                 'have answered, so the byte read says nothing.']
+        found.append(Finding(CONTENDED, words, (register.address,), events))
+    return _gathered(reading, found, CONTENDED, '{} registers were read while another select was low', 'Each read is listed below.')
+
+
 def why_ignored(register: Register) -> str:
     """Why the chip ignores writes to a register."""
     return {ABSENT: 'the map has no such register', BLANK: 'the register is blank', READ_ONLY: 'the register is read-only',
@@ -289,5 +308,6 @@ def judged(reading: Reading) -> Verdict:
     waits = _waits(reading)
     ignored, harmless = _ignored(reading)
     told = [address for finding in cuts + waits for address in finding.addresses]
-    reasons = _whole(reading) + cuts + waits + _reads(reading) + ignored + _nowhere(reading) + _wanted(reading, told)
+    reads = _reads(reading) + _contended(reading)
+    reasons = _whole(reading) + cuts + waits + reads + ignored + _nowhere(reading) + _wanted(reading, told)
     return Verdict(reasons, mended + harmless + _idle_frames(reading) + _slow(reading))

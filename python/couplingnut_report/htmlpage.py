@@ -46,6 +46,7 @@ def _facts(report: Report) -> str:
              + _field('Map and wanted values', unit.file, _sha(unit.sha256), True)
              + _field('Length', counted(len(capture.samples), 'sample'), long) + _field('Recording whole', whole, why))
     lines = ', '.join(f'{CALLED[line]} {name}' for line, name in capture.lines.items())
+    lines += f'; other selects {", ".join(capture.others)}' if capture.others else ''
     assumed = f'Lines, by channel: {html.escape(lines)}.' + (f'<br>{ASSUMED}' if isinstance(report, Judged) else '')
     full = f'SHA-256 in full: recording <code>{capture.sha256}</code><br>map and wanted values <code>{unit.sha256}</code>'
     return section('f', 'Unit and recording', element('dl', facts) + element('p', assumed, 'assumed') + element('p', full, 'sha'), 'facts')
@@ -97,7 +98,7 @@ def _counts(report: Union[Judged, Refused]) -> str:
 
 
 def _legend(report: Report) -> str:
-    sentences = legend.of(report.unit) if isinstance(report, Judged) else legend.REFUSED
+    sentences = legend.of(report.unit, report.capture) if isinstance(report, Judged) else legend.REFUSED
     lines = ''.join(element('li', marked(sentence)) + '\n' for sentence in sentences)
     return section('l', 'In plain words', element('ul', lines), 'legend keep')
 

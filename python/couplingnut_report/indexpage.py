@@ -35,12 +35,12 @@ class Row:
     page: Optional[str]
 
 
-def _tally(rows: List[Row]) -> str:
+def _tally(rows: List[Row], noun: str) -> str:
     items = ''
     for kind, _, words, statuses in GROUPS:
         count = sum(row.status in statuses for row in rows)
         items += f'<li class="{kind}">{pictures.sign(kind)}<b>{number(count)}</b><span>{words}</span></li>\n'
-    return section('t', counted(len(rows), 'recording'), f'<ul class="tally">{items}</ul>')
+    return section('t', counted(len(rows), noun), f'<ul class="tally">{items}</ul>')
 
 
 def _why(row: Row, kind: str) -> str:
@@ -73,13 +73,14 @@ def _group(rows: List[Row], kind: str, title: str) -> str:
     return f'<tr role="row">{named}</tr>\n' + ''.join(_row(row, kind) for row in ordered) if rows else ''
 
 
-def index_page(folder: str, rows: List[Row], part: Optional[str] = None) -> str:
-    """The whole index; of an older part's units, if that was named."""
+def index_page(name: str, rows: List[Row], part: Optional[str] = None, noun: str = 'recording') -> str:
+    """The whole index of a folder's recordings, or of the chips of one or more; of an older part's units, if that was named."""
     heads = ''.join(f'<th role="columnheader" scope="col">{name}</th>' for name in COLUMNS)
     body = ''.join(_group([row for row in rows if row.status in statuses], kind, title) for kind, title, _, statuses in GROUPS)
     table = ('<table class="list stack" role="table"><caption>The bad ones first. A unit\'s name leads to its page.</caption>'
              f'<thead role="rowgroup"><tr role="row">{heads}</tr></thead><tbody role="rowgroup">{body}</tbody></table>')
-    title = f'Bench sign-out: all recordings of {folder}'
+    title = f'Bench sign-out: all {noun}s of {name}'
     means = READY_MEANS + (f' The chips are read as {part}; at the end no run of theirs is unfinished.' if part else '')
-    content = _tally(rows) + section('e', 'Verdict of each', table) + element('p', means, 'foot')
+    means += ' No chip was read while another\'s select was low.' if noun == 'chip' else ''
+    content = _tally(rows, noun) + section('e', 'Verdict of each', table) + element('p', means, 'foot')
     return document(title, title, head(title, neighbours.version(), 'h1') + content)

@@ -27,7 +27,8 @@ def _row(row: Row) -> Dict[str, Any]:
 
 def _recording(capture: Capture) -> Dict[str, Any]:
     return {'file': capture.file, 'sha256': capture.sha256, 'samples': len(capture.samples), 'rate': capture.rate,
-            'seconds': len(capture.samples) / capture.rate if capture.rate else None, 'lines': capture.lines}
+            'seconds': len(capture.samples) / capture.rate if capture.rate else None, 'lines': capture.lines,
+            'other_selects': list(capture.others)}
 
 
 def as_object(report: Union[Judged, Refused]) -> Dict[str, Any]:

@@ -3,6 +3,7 @@ from __future__ import annotations
 
 from typing import List
 
+from .captures import Capture
 from .sentences import Sentence, Strong
 from .unit import Unit
 
@@ -23,6 +24,9 @@ _OLDER: List[Sentence] = [
     [Strong('Ignored'), ': a write to a register that is blank or read-only. It changes nothing.'],
     [Strong('Run'), ': a command and its bytes. Between those of a short one the select may be high; it goes on when the select falls.'],
 ]
+_SELECTS: List[Sentence] = [
+    [Strong('Another select low'), ': each chip has a select of its own. With two of them low at once, two chips answer on one line.'],
+]
 _MOVED: List[Sentence] = [
     [Strong('Bits that moved'), ': bit 7 left to bit 0 right; a filled one changed in at least one write. ', Strong('Read back'),
      ': the chip answered with this value.'],
@@ -35,6 +39,6 @@ REFUSED: List[Sentence] = [
 ]
 
 
-def of(unit: Unit) -> List[Sentence]:
+def of(unit: Unit, capture: Capture) -> List[Sentence]:
     """The words of a page that was read; what the unit's chip does not have is not among them."""
-    return _REGISTERS + (_NEWER if unit.part is None else _OLDER) + _MOVED
+    return _REGISTERS + (_NEWER if unit.part is None else _OLDER) + (_SELECTS if capture.others else []) + _MOVED

@@ -5,13 +5,14 @@ user has to say, because exchanged lines can give believable writes that nobody 
 """
 from __future__ import annotations
 
-from typing import Dict, Mapping, Optional, Sequence
+from typing import Dict, List, Mapping, Optional, Sequence
 
 from .ends import Wrong
 
 # The lines, in the order of a sample's bits.
 LINES = ('csb', 'sclk', 'sdio', 'sdo')
 CALLED = {'csb': 'select', 'sclk': 'clock', 'sdio': 'data', 'sdo': 'answer'}
+MOST_SELECTS = 8  # which can be read together
 # A chip with three wires answers on its data line.
 OPTIONAL = ('sdo',)
 # Channel names, without case and signs, that are taken for a line.
@@ -66,6 +67,19 @@ def lines_of(channels: Sequence[str], named: Mapping[str, Optional[str]]) -> Dic
     return found
 
 
+def selects_of(channels: Sequence[str], named: Mapping[str, Optional[str]], selects: Sequence[str]) -> List[Dict[str, int]]:
+    """The lines of each of several chips: its own select, and the others, which they share."""
+    if len(selects) > MOST_SELECTS:
+        raise Wrong(f'--csb is given {len(selects)} times: at most {MOST_SELECTS} chips can be read together; leave some selects out')
+    found: List[Dict[str, int]] = []
+    for select in selects:
+        lines = lines_of(channels, {**named, 'csb': select})
+        if any(other['csb'] == lines['csb'] for other in found):
+            raise Wrong(f'--csb names channel "{channels[lines["csb"]]}" twice: name each select once')
+        found.append(lines)
+    return found
+
+
 def _moved(bits: Mapping[int, int]) -> bytes:
     """The table for bytes.translate that puts each of these bits of a byte at its new place, and clears the rest."""
     return bytes(sum(1 << to for bit, to in bits.items() if byte >> bit & 1) for byte in range(256))
@@ -77,10 +91,25 @@ def samples_of(units: bytes, width: int, bits: Mapping[str, int]) -> bytes:
     columns: Dict[int, Dict[int, int]] = {}
     for line, bit in bits.items():
         columns.setdefault(bit // 8, {})[bit % 8] = LINES.index(line)
-    parts = [units[column::width].translate(_moved(moved)) for column, moved in columns.items()]
-    whole = 0
+    return _together([units[column::width].translate(_moved(moved)) for column, moved in columns.items()])
+
+
+def _together(parts: Sequence[bytes]) -> bytes:
+    """Bytes that have a bit where one of the parts has it."""
     if len(parts) == 1:
         return parts[0]
+    whole = 0
     for part in parts:
         whole |= int.from_bytes(part, 'little')
     return whole.to_bytes(len(parts[0]), 'little')
+
+
+def shared_samples(chips: Sequence[bytes]) -> bytes:
+    """Two bytes a sample, by the rules for several chips, from the samples of each of them: the selects, bit i for chip i, with those of
+    absent chips high; then the lines that they share."""
+    absent = 0xFF & ~((1 << len(chips)) - 1)
+    selects = [chip.translate(bytes((byte & 1) << at | absent for byte in range(256))) for at, chip in enumerate(chips)]
+    shared = bytearray(2 * len(chips[0]))
+    shared[0::2] = _together(selects)
+    shared[1::2] = chips[0].translate(bytes(byte & 0x0E for byte in range(256)))
+    return bytes(shared)

@@ -8,7 +8,7 @@ from __future__ import annotations
 import functools
 import re
 from dataclasses import dataclass, field
-from typing import Dict, FrozenSet, Iterator, List, Optional, Tuple, Union
+from typing import Dict, FrozenSet, Iterator, List, NamedTuple, Optional, Tuple, Union
 
 import couplingnut as cn
 
@@ -18,19 +18,29 @@ from .unit import Unit
 PIECE = 4096
 WRITE, READ, CUT = 1, 2, 3
 IGNORED, ACTIVE, WAITING, SETTING, TRANSFER, RESET = range(6)
+AGREED, DISAGREED, CONTENDED = range(3)
+_LEVELS = bytes(byte & 3 for byte in range(256))
 _SELECT = bytes(byte & 1 for byte in range(256))
 _BAD = re.compile(rb'[^\x00-\x0F]')
+
+
+class Low(NamedTuple):
+    """Another chip's select that was low while a byte was read, and the first sample in which it was."""
+    select: str
+    at: int
 
 
 @dataclass(frozen=True)
 class Event:
     """A record, the number of the sample that completed it, and what else the library showed there: whether buffer readback was on, how
-    many registers a transfer put in force, and the session before (of a cut: just before the select rose)."""
+    many registers a transfer put in force, and the session before (of a cut: just before the select rose). Of a contended read also the
+    other selects that were low."""
     record: cn.Record
     at: int
     readback: bool
     came_in_force: int
     before: cn.Session
+    low: Tuple[Low, ...] = ()
 
     def is_write(self, *effects: int) -> bool:
         """Whether it is a write with one of these effects."""
@@ -44,9 +54,17 @@ class Event:
         """Of a cut: whether a byte broke off, and not a command."""
         return self.record.byte4 == 1
 
+    def agrees(self) -> bool:
+        """Whether it is a read that carried the byte that was due."""
+        return self.record.kind == READ and self.record.byte5 == AGREED
+
     def disagrees(self) -> bool:
         """Whether it is a read that carried another byte than was due."""
-        return self.record.kind == READ and self.record.byte5 != 0
+        return self.record.kind == READ and self.record.byte5 == DISAGREED
+
+    def is_contended(self) -> bool:
+        """Whether it is a read with another chip's select low, which says nothing of the byte."""
+        return self.record.kind == READ and self.record.byte5 == CONTENDED
 
 
 @dataclass
@@ -128,6 +146,25 @@ def frames_of(samples: bytes) -> Iterator[Tuple[int, Optional[int]]]:
         end = levels.find(b'\1', start)
         yield start, None if end < 0 else end
         start = -1 if end < 0 else levels.find(b'\0', end)
+
+
+def rises_before(samples: bytes, end: int, count: int) -> List[int]:
+    """The last samples before this one in which the clock rose with the select low; at most so many."""
+    found: List[int] = []
+    reach = 256
+    while len(found) < count:
+        start = max(0, end - reach)
+        levels, found, at = samples[start:end].translate(_LEVELS), [], end - start
+        while len(found) < count:
+            at = levels.rfind(b'\0\2', 0, at)
+            if at < 0:
+                break
+            found.append(start + at + 1)
+            at += 1
+        if start == 0:
+            break
+        reach *= 8
+    return found[::-1]
 
 
 class _Reader:

@@ -4,9 +4,9 @@ from __future__ import annotations
 import bisect
 import functools
 from dataclasses import dataclass
-from typing import Dict, List, Optional, Tuple, Union
+from typing import Dict, List, Optional, Sequence, Tuple, Union
 
-from . import ends, facts, neighbours
+from . import ends, facts, neighbours, several
 from .captures import Capture
 from .findings import BROKEN, Finding, Verdict, judged
 from .reading import RESET, TRANSFER, Event, Reading, Refusal, read
@@ -120,10 +120,20 @@ class Refused(Report):
 
 def make(unit: Unit, capture: Capture, filled: Filled) -> Union[Judged, Refused]:
     """Reads a recording and judges it."""
-    reading, version = read(unit, capture), neighbours.version()
+    return _of(read(unit, capture), filled)
+
+
+def make_all(unit: Unit, captures: Sequence[Capture], filled: Filled) -> List[Union[Judged, Refused]]:
+    """A report for each chip of a recording."""
+    return [_of(reading, filled) for reading in several.read_chips(unit, captures)] if len(captures) > 1 else [
+        make(unit, captures[0], filled)]
+
+
+def _of(reading: Union[Reading, Refusal], filled: Filled) -> Union[Judged, Refused]:
+    known = (reading.unit, reading.capture, filled, neighbours.version())
     if isinstance(reading, Refusal):
-        return Refused(unit, capture, filled, version, Verdict([_refused(reading)], []), reading)
-    return Judged(unit, capture, filled, version, judged(reading), reading, facts.rows(reading), facts.counts(reading))
+        return Refused(*known, Verdict([_refused(reading)], []), reading)
+    return Judged(*known, judged(reading), reading, facts.rows(reading), facts.counts(reading))
 
 
 def _refused(refusal: Refusal) -> Finding:
@@ -148,7 +158,8 @@ def chip(unit: Unit) -> Tuple[str, str]:
 def named_counts(report: Judged) -> List[Tuple[str, int]]:
     """The counts with their nouns, of one in the singular."""
     single = {'frames': 'frame', 'bytes written': 'byte written', 'bytes read': 'byte read', 'reads that disagreed': 'read that disagreed',
-              'transfers': 'transfer', 'soft resets': 'soft reset', 'broken bytes': 'broken byte', 'broken commands': 'broken command',
+              facts.CONTENDED_READS: 'read with another select low', 'transfers': 'transfer', facts.RESETS: 'soft reset',
+              'broken bytes': 'broken byte', 'broken commands': 'broken command',
               'ignored writes': 'ignored write', 'interface settings': 'interface setting'}
     return [(single.get(name, name) if count == 1 else name, count) for name, count in report.counts.items()]
 
@@ -173,6 +184,6 @@ def milestone(report: Judged, event: Event) -> Sentence:
 def looked_for(report: Judged) -> str:
     """What was looked for and not found."""
     counts = {**report.counts, 'waiting values': len(facts.waiting(report.reading))}
-    names = ('broken bytes', 'broken commands', 'waiting values', 'reads that disagreed', 'ignored writes')
-    absent = [name for name in names if not counts[name]]
+    names = ('broken bytes', 'broken commands', 'waiting values', 'reads that disagreed', facts.CONTENDED_READS, 'ignored writes')
+    absent = [name for name in names if counts.get(name) == 0]
     return f'Looked for and not found: {", ".join(absent)}.' if absent else ''

@@ -11,10 +11,12 @@ from .reading import IGNORED, READ, RESET, TRANSFER, Frame, Reading
 from .sentences import counted, number
 from .svg import INK, RULE, SANS, SOFT, STOP, hatching, num, path, rect, shape, text
 
-BROKEN, OPEN, RESETS, TRANSFERS, IGNORES, DIFFERS, READS, EMPTY, WRITES = (
-    'broken', 'open', 'reset', 'transfer', 'ignored', 'differs', 'read', 'empty', 'write')
-KEY = {WRITES: 'write', READS: 'read (below the line)', DIFFERS: 'read that disagreed', TRANSFERS: 'transfer', RESETS: 'soft reset',
-       BROKEN: 'broken off', IGNORES: 'ignored write', EMPTY: 'nothing passed', OPEN: 'not finished'}
+BROKEN, OPEN, RESETS, TRANSFERS, IGNORES, CONTENDED, DIFFERS, READS, EMPTY, WRITES = (
+    'broken', 'open', 'reset', 'transfer', 'ignored', 'contended', 'differs', 'read', 'empty', 'write')
+KEY = {WRITES: 'write', READS: 'read (below the line)', DIFFERS: 'read that disagreed', CONTENDED: 'read with another select low',
+       TRANSFERS: 'transfer', RESETS: 'soft reset', BROKEN: 'broken off', IGNORES: 'ignored write', EMPTY: 'nothing passed',
+       OPEN: 'not finished'}
+ANSWERS = (READS, DIFFERS, CONTENDED)  # which stand below the line
 QUIET = 0.05  # seconds, which is shortened
 MOST_FOLDS, FOLD_WIDTH = 6, 6.5
 FOLD_MARGIN = 0.02  # what stays of a quiet stretch on either side
@@ -27,7 +29,8 @@ def kind_of(reading: Reading, frame: Frame) -> str:
     """What a frame is shown as: the most serious thing in it."""
     tests = ((BROKEN, lambda event: event.is_cut()), (RESETS, lambda event: event.is_write(RESET)),
              (TRANSFERS, lambda event: event.is_write(TRANSFER)), (IGNORES, lambda event: event.is_write(IGNORED)),
-             (DIFFERS, lambda event: event.disagrees()), (READS, lambda event: event.record.kind == READ))
+             (CONTENDED, lambda event: event.is_contended()), (DIFFERS, lambda event: event.disagrees()),
+             (READS, lambda event: event.record.kind == READ))
     if reading.is_open(frame):
         return OPEN
     if not frame.events and frame.after.stalled and not frame.took_no_bit():
@@ -78,8 +81,8 @@ def milestone_mark(kind: str) -> str:
 def _block(kind: str, width: float) -> str:
     """The block of a frame, from x = 0 on; the line is at y = 40."""
     above = f'<g transform="translate({num(width / 2)} 0)">{milestone_mark(kind)}</g>'
-    if kind in (READS, DIFFERS):
-        fill, stroke, line = ('url(#trouble)', STOP, 1.5) if kind == DIFFERS else ('#fff', INK, 1)
+    if kind in ANSWERS:
+        fill, stroke, line = ('url(#trouble)', STOP, 1.5) if kind != READS else ('#fff', INK, 1)
         return rect(0.75, 40.5, max(width - 1.5, 3.5), 14, fill, stroke, line)
     if kind == BROKEN:
         return rect(0.75, 22.75, max(width - 1.5, 5), 17, 'url(#trouble)', STOP, 1.5) + above
@@ -156,7 +159,7 @@ def _blocks(reading: Reading, axis: _Axis) -> List[str]:
 def _number_place(reading: Reading, frame: Frame, axis: _Axis) -> Tuple[float, int]:
     """Where a reason's number stands beside a frame: how far from its start, and how high."""
     kind, middle = kind_of(reading, frame), _width(frame, axis) / 2
-    if kind == DIFFERS:
+    if kind in (DIFFERS, CONTENDED):
         return -11, 48
     return middle + {BROKEN: -17, TRANSFERS: -17, RESETS: 17}.get(kind, 0), 9
 
@@ -208,7 +211,7 @@ def _key(kinds: Sequence[str], folded: bool) -> str:
 def _key_icon(kind: str) -> str:
     if kind in (BROKEN, TRANSFERS, RESETS):
         return f'<g transform="translate(9 0)">{milestone_mark(kind)}</g>'
-    below = kind in (READS, DIFFERS)
+    below = kind in ANSWERS
     line = path('M0 2h18' if below else 'M0 17.5h18', INK, 1)
     return line + f'<g transform="translate(5 {-38.5 if below else -22.5})">{_block(kind, 8)}</g>'
 

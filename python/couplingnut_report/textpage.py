@@ -38,6 +38,7 @@ def _facts(report: Report) -> List[str]:
              chip(unit), ('Recording', capture.file), ('  SHA-256', capture.sha256),
              ('Map and wanted', unit.file), ('  SHA-256', unit.sha256), ('Length', length),
              ('Lines', ', '.join(f'{CALLED[line]} {name}' for line, name in capture.lines.items()))]
+    known += [('Other selects', ', '.join(capture.others))] * bool(capture.others)
     if isinstance(report, Judged):
         known += [('Recording whole', ', '.join(report.wholeness()))]
     return _section('Unit and recording', [f'{name:<18}{text}' for name, text in known] + [ASSUMED] * isinstance(report, Judged))
@@ -109,5 +110,5 @@ def text_page(report: Report) -> str:
         lines += _section('Counts', [f'{number(count):>9} {name}' for name, count in named_counts(report)])
     else:
         lines += _section('Registers written', ['Not known, since the recording was refused.'])
-    words = [plain(sentence) for sentence in (legend.of(report.unit) if isinstance(report, Judged) else legend.REFUSED)]
+    words = [plain(sentence) for sentence in (legend.of(report.unit, report.capture) if isinstance(report, Judged) else legend.REFUSED)]
     return '\n'.join(lines + _section('In plain words', words) + _signature(report)) + '\n'

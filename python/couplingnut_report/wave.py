@@ -9,12 +9,11 @@ from bisect import bisect_right
 from typing import List
 
 from .findings import BITS, bits_of
-from .reading import Event
+from .reading import Event, rises_before
 from .sentences import number
 from .svg import DASHED, GHOST, HATCH, INK, SOFT, STOP, dot, hatching, num, path, picture, rect, shape, text
 
 SELECT, CLOCK, DATA, ANSWER = range(4)
-_LEVELS = bytes(byte & 3 for byte in range(256))
 _LINE = {bit: bytes(byte >> bit & 1 for byte in range(256)) for bit in range(4)}
 WIDTH, LEFT, RIGHT = 430, 52, 8
 HIGH_LOW = {SELECT: (52, 74), CLOCK: (90, 112), DATA: (128, 150), ANSWER: (128, 150)}
@@ -24,21 +23,7 @@ WIDEST = 3
 
 def taken_at(samples: bytes, event: Event) -> List[int]:
     """The samples at which the bits of a broken byte or command were taken: the last rises of the clock before the select rose."""
-    found: List[int] = []
-    reach = 256
-    while len(found) < event.record.byte3:
-        start = max(0, event.at - reach)
-        levels, found, at = samples[start:event.at].translate(_LEVELS), [], event.at - start
-        while len(found) < event.record.byte3:
-            at = levels.rfind(b'\0\2', 0, at)
-            if at < 0:
-                break
-            found.append(start + at + 1)
-            at += 1
-        if start == 0:
-            break
-        reach *= 8
-    return found[::-1]
+    return rises_before(samples, event.at, event.record.byte3)
 
 
 def source_of(event: Event) -> int:

@@ -118,16 +118,48 @@ def oversampled(samples, times, jitter=0, seed=1):
     return b''.join(bytes([sample]) * (times + (chance.randint(-jitter, jitter) if jitter else 0)) for sample in samples)
 
 
-class Channels:
-    """Where the four lines stand among the channels of an analyser, and what the others do."""
+def selects(count):
+    """The lines of several chips, in the order of the bits of `shared`."""
+    return ('SCLK', 'SDIO', 'SDO', *(f'CS{chip}' for chip in range(count)))
 
-    def __init__(self, names, width, seed=1, moves=0.3):
-        self.names, self.width, self.chance, self.moves = names, width, random.Random(seed), moves
+
+def shared(count, *frames):
+    """Frames on the wires of several chips: each with the chips whose selects go by it. A sample has a bit for each of `selects`."""
+    out = [0x7F8] * len(IDLE)
+    for chips, frame in frames:
+        out += [sample >> 1 & 7 | sum((sample & 1 if chip in chips else 1) << 3 + chip for chip in range(8)) for sample in frame]
+    return [sample & (1 << 3 + count) - 1 for sample in out]
+
+
+def lowered(samples, chip, start, end):
+    """The same with the select of a chip low from one sample to another."""
+    return [sample & ~(1 << 3 + chip) if start <= at < end else sample for at, sample in enumerate(samples)]
+
+
+def alone(samples, chip):
+    """One chip's samples of several's."""
+    return bytes((sample & 7) << 1 | sample >> 3 + chip & 1 for sample in samples)
+
+
+def chip_captures(samples, count, rate=1_000_000):
+    """A capture for each chip."""
+    names = [f'CS{chip}' for chip in range(count)]
+    lines = {'sclk': 'SCLK', 'sdio': 'SDIO', 'sdo': 'SDO'}
+    others = [tuple(names[:chip] + names[chip + 1:]) for chip in range(count)]
+    return [captures.Capture('made.sr', '0' * 64, alone(samples, chip), rate, {'csb': name, **lines}, others[chip])
+            for chip, name in enumerate(names)]
+
+
+class Channels:
+    """Where the lines stand among the channels of an analyser, and what the others do."""
+
+    def __init__(self, names, width, seed=1, moves=0.3, lines=('CSB', 'SCLK', 'SDIO', 'SDO')):
+        self.names, self.width, self.chance, self.moves, self.lines = names, width, random.Random(seed), moves, lines
 
     def units(self, samples):
         """The analyser's bytes: each line at the bit of its channel, all other channels moving."""
-        places = [(self.names.index(line), bit) for bit, line in enumerate(('CSB', 'SCLK', 'SDIO', 'SDO')) if line in self.names]
-        busy = [at for at, name in enumerate(self.names) if name not in ('CSB', 'SCLK', 'SDIO', 'SDO')]
+        places = [(self.names.index(line), bit) for bit, line in enumerate(self.lines) if line in self.names]
+        busy = [at for at, name in enumerate(self.names) if name not in self.lines]
         out, noise = bytearray(), 0
         for sample in samples:
             if busy and self.chance.random() < self.moves:

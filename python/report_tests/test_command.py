@@ -93,9 +93,9 @@ class Report(Files):
                             (['report', '--all', self.folder.name], '-o SITE'),
                             (['report', '--all', self.folder.name, *files], 'no CAPTURE'),
                             (['report', *files, '-o', self.good], 'is to be read'),
-                            (['report', '--csb', 'D0', '--csb', 'D1', *files], 'several chips'),
                             (['report', '--csb', 'X', *files], 'D0, D1, D2'),
                             (['read', '--follow'], 'MAP'),
+                            (['read', '--follow', '--csb', 'D0', '--csb', 'D1', *files], 'reads one chip'),
                             (['nothing'], 'invalid choice'),
                             ([], 'usage')):
             self.assert_end(2, said, *words)

@@ -34,8 +34,8 @@ def _library():
     module = importlib.util.module_from_spec(spec)
     try:
         spec.loader.exec_module(module)
-    except OSError as error:
-        raise Unusable(f'libcouplingnut is not there: {error}') from None
+    except (OSError, AttributeError) as error:
+        raise Unusable(f'libcouplingnut is not there, or is an older one: {error}') from None
     return module
 
 
