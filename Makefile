@@ -1,8 +1,8 @@
 # Three commands do everything: `make run` builds the programs and reads an example, `make test` is the gate, `make report` makes the page
-# of the example unit.
+# of the example unit. `make audit` writes the rules beside the definitions, for a sceptic.
 # Beyond them: `make` builds programs and libraries, `make install` and `make uninstall` take PREFIX and DESTDIR, `make dist` packs it
 # all for a PC without the toolchain.
-.PHONY: all run report build library install uninstall dist test bench clean
+.PHONY: all run report audit build library install uninstall dist test bench clean
 
 VERSION := $(shell cat VERSION)
 PREFIX = /usr/local
@@ -20,6 +20,12 @@ report: library
 	@tools/couplingnut report examples/open-day.txt examples/open-day.sr -o $(PAGE) || [ $$? -eq 1 ]
 	@tools/couplingnut report examples/open-day.txt examples/open-day.sr | head -n 2
 	@echo "the page: $(PAGE)"
+
+# The rules beside the definitions, the contracts and the tests: one page.
+AUDIT = target/audit.html
+audit:
+	@tools/audit -o $(AUDIT)
+	@echo "the page: $(AUDIT)"
 
 # The two programs with an exit status are C over proved code, and tell the version of the file VERSION.
 COMPILE = gcc -std=c11 -O2 -Wall -Wextra -Werror -D_DEFAULT_SOURCE -DCOUPLINGNUT_VERSION='"$(shell cat VERSION)"'

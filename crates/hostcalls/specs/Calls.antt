@@ -1,4 +1,4 @@
--- The reader's calls as a host makes them: the session is its bytes.
+-- RULES, "The library for hosts": the reader's calls as a host makes them, with the session as bytes.
 use Prim.Native.Nat.{ℕ}
 use mathlib.Core.Bool.{cond}
 use mathlib.Core.List.{List}

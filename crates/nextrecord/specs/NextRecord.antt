@@ -1,4 +1,4 @@
--- The next record: samples are read up to and with the first that gives a record, or all of them.
+-- RULES, "The library for hosts", the next record: samples are read up to and with the first that gives a record, or all of them.
 use Prim.Native.Nat.{ℕ, _+_, _*_}
 use mathlib.Core.Bool.{cond, _&&_}
 use mathlib.Core.List.{List, [], _∷_}

@@ -1,4 +1,4 @@
--- How a reading ends, and what is told of it.
+-- RULES, "The bench program": how a reading ends, and what is told of it.
 use mathlib.Core.Path.{_≡_}
 use Prim.Native.Nat.{ℕ, _<_, _≤_}
 use Rattle.recording.specs.declared.End.{End}

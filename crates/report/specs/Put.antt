@@ -1,4 +1,4 @@
--- What putting text into a lent buffer leaves.
+-- RULES, "The bench program": what putting text into a lent buffer leaves.
 use Prim.Native.Nat.{ℕ, _+_, _/_, min}
 use mathlib.Core.Path.{_≡_}
 use mathlib.Core.List.{List}

@@ -1,4 +1,4 @@
--- The session as bytes, so that it can cross to a host.
+-- RULES, "The library for hosts": the session as bytes, so that it can cross to a host.
 use Prim.Native.Nat.{ℕ, _+_, _*_, _/_, _%_}
 use mathlib.Core.Bool.{Bool, cond}
 use mathlib.Core.List.{List, [], _∷_, _++_}
