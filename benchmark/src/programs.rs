@@ -1,4 +1,4 @@
-//! The two programs on the same recording: busread, and the opponent built
+//! The two programs on the same recording: busread, and the one built
 //! beside this one.
 
 use std::fs::{self, File};

@@ -1,4 +1,4 @@
-//! The opponent of busread: the same program by the second implementation,
+//! What busread is compared with: the same program by the second implementation,
 //! without the standard library's buffers between it and the system.
 
 use std::fs::File;
