@@ -1,10 +1,10 @@
 -- One turn of the loop: samples up to a stop, and the sample there.
 use mathlib.Core.Path.{_≡_, refl, sym, _∙_, ap, subst}
-use mathlib.Core.Bool.{Bool, true, false, cond, _&&_, _||_}
+use mathlib.Core.Bool.{Bool, true, false, cond, _&&_}
 use mathlib.Core.List.{List}
-use Prim.Native.Nat.{ℕ, _+_, _%_, _<_, _≤_}
+use Prim.Native.Nat.{ℕ, _+_, _-_, _/_, _%_, _<_}
 use native.Mathlib.Omega.{arith}
-use lib.Dec.{eqb, leb}
+use lib.Dec.{eqb}
 use borrow.Author.Tests.{eq-eqb, ne-eqb}
 use Rattle.bits.specs.Bits.{bitAt, shiftedIn}
 use lib.ListN.{length, getD}
@@ -14,8 +14,9 @@ use Rattle.session.specs.declared.Port.{Port}
 use Rattle.session.specs.declared.Event.{Event}
 use Rattle.session.specs.declared.Event.the-variants.{Nothing, Whole}
 use Rattle.settings.specs.Settings.{nextAddress}
-use Rattle.session.specs.State.{resting, isData, isCounted}
-use Rattle.session.specs.Step.{takesBit, stepOf}
+use Rattle.session.specs.declared.Phase.the-variants.{Rest}
+use Rattle.session.specs.State.{idle, resting, isData, isCounted}
+use Rattle.session.specs.Step.{takesBit, entered, settingsOnByte, runsOut, afterByte, stepOf}
 use Rattle.session.specs.Event.{endEvent, eventOf}
 use Rattle.session.proofs.Laws.{fit-sound, byte-lt}
 use Rattle.trace.specs.declared.scan.Piece.{Piece}
@@ -27,10 +28,11 @@ use Rattle.trace.proofs.Onward.{start-standing}
 use Rattle.records.specs.Contracts.{endOf}
 use Rattle.run.specs.Reading.{World, worldOf}
 use Rattle.run.specs.Phased.{phaseOf, phased}
+use Rattle.run.specs.Reach.{reaches}
 use Rattle.run.proofs.Laws.{still-reading}
 use Rattle.run.proofs.Counting.{still-counting}
 use Rattle.run.proofs.Running.{Running}
-use Rattle.run.proofs.Steps.{leveled, started, instructed, restarted, byteAt, goes-on, starts, stalls-here, ends, no-byte, byte-whole, byte-taken, byte-single, instruction-taken, line-sound, data-by-last}
+use Rattle.run.proofs.Steps.{leveled, started, instructed, settled, restarted, going, goes-on, starts, stalls-here, ends, no-byte, newer-none-left, instruction-whole, byte-whole, bit-passed, enters-newer, enters-older, enters-none, after-single, after-next, after-run, after-run-ends, line-sound, data-by-last}
 
 pub running-quiet : {c : Chip} {put : Bool} {m xs : List ℕ} {w₀ : World} {s t : Port} {armed : Bool} {act buf ws old new : List ℕ} {size i j : ℕ}
     → Running c put m xs w₀ (worldOf s armed act buf ws) old new size i → Quiet c xs s i t j → Running c put m xs w₀ (worldOf t armed act buf ws) old new size j
@@ -118,45 +120,89 @@ module _ {c : Chip} {put : Bool} {m xs : List ℕ} {w₀ : World} {old : List �
       takes : takesBit (held (phased s last) p) (getD xs (p .at) 0) ≡ true
       takes = bit-taken c (phased s last) p (getD xs (p .at) 0) down even (k .reached .apt) (k .stopped down h even .1)
 
-      whole : last ≡ 7 → (v : ℕ) → v ≡ shiftedIn (s .used .lsb) (p .value) (p .bits) (bitAt (getD xs (p .at) 0) (lineOf c (phased s last)))
-          → eventOf c (held (phased s last) p) (getD xs (p .at) 0) ≡ Whole (s .read) (s .address) v
-      whole e v ev =
-          byte-whole c (held (phased s last) p) (getD xs (p .at) 0) (k .reached .apt .sound) takes (ap phaseOf e) (k .stopped down h even .0 ∙ e)
-          ∙ ap (Whole (s .read) (s .address)) (sym ev)
-
-      -- the last bit of a byte, and a port that the general step gives
-      pub stop-whole : last ≡ 7 → (v : ℕ) → v ≡ shiftedIn (s .used .lsb) (p .value) (p .bits) (bitAt (getD xs (p .at) 0) (lineOf c (phased s last)))
-          → {t : Port} → t ≡ stepOf c (held (phased s last) p) (getD xs (p .at) 0)
-          → Next c xs (phased s last) i (Whole (s .read) (s .address) v) t (p .at + 1)
-      stop-whole e v ev et = next-to (whole e v ev) (sym et)
-
-      -- where it changes only the address
-      pub stop-byte : last ≡ 7 → (v : ℕ) → v ≡ shiftedIn (s .used .lsb) (p .value) (p .bits) (bitAt (getD xs (p .at) 0) (lineOf c (phased s last)))
-          → isNewer c ≡ true → s .used .single ≡ false → (s .read || leb 2 (s .address)) ≡ true → (a : ℕ) → a ≡ nextAddress (s .used .ascending) (s .address)
-          → Next c xs (phased s last) i (Whole (s .read) (s .address) v) (byteAt (held (phased s last) p) a) (p .at + 1)
-      stop-byte e v ev n o w a ea =
-          next-to (whole e v ev)
-          (byte-taken c (held (phased s last) p) (getD xs (p .at) 0) (k .reached .apt .sound) takes n (ap phaseOf e) (k .stopped down h even .0 ∙ e) o w ∙ rw ea refl)
-
-      -- where a new instruction starts
-      pub stop-single : last ≡ 7 → (v : ℕ) → v ≡ shiftedIn (s .used .lsb) (p .value) (p .bits) (bitAt (getD xs (p .at) 0) (lineOf c (phased s last)))
-          → isNewer c ≡ true → s .used .single ≡ true → (s .read || leb 2 (s .address)) ≡ true
-          → Next c xs (phased s last) i (Whole (s .read) (s .address) v) (restarted (held (phased s last) p)) (p .at + 1)
-      stop-single e v ev n o w =
-          next-to (whole e v ev)
-          (byte-single c (held (phased s last) p) (getD xs (p .at) 0) (k .reached .apt .sound) takes n (ap phaseOf e) (k .stopped down h even .0 ∙ e) o w)
+      filled : {n : ℕ} → last ≡ n → p .bits ≡ n
+      filled e = k .stopped down h even .0 ∙ e
 
       -- the last bit of an instruction
-      pub stop-instruction : last ≡ 15 → isNewer c ≡ true → (v : ℕ) → v ≡ shiftedIn (s .used .lsb) (p .value) (p .bits) (bitAt (getD xs (p .at) 0) 2)
-          → Running c put m xs w₀ (worldOf (instructed (held (phased s last) p) v) armed act buf ws) old new size (p .at + 1)
-      stop-instruction e n v ev =
-          rw ev
-          (quiet-to (
-            instruction-taken c (held (phased s last) p) (getD xs (p .at) 0) (k .reached .apt .sound) takes n (ap phaseOf e) (k .stopped down h even .0 ∙ e),
-            no-byte c (held (phased s last) p) (getD xs (p .at) 0) takes (ap (λ (n : ℕ). isData (phaseOf n)) e),
-          ))
+      module _ (e : last ≡ 15) (v : ℕ) (ev : v ≡ shiftedIn (s .used .lsb) (p .value) (p .bits) (bitAt (getD xs (p .at) 0) 2)) where
+        entered-to : {t : Port} → entered c v (s .settings) (s .used) ≡ t → Running c put m xs w₀ (worldOf t armed act buf ws) old new size (p .at + 1)
+        entered-to et =
+            quiet-to (
+              instruction-whole c (held (phased s last) p) (k .reached .apt .sound) (getD xs (p .at) 0) takes (ap phaseOf e) (filled e)
+                  ∙ ap (λ (n : ℕ). entered c n (s .settings) (s .used)) (sym ev) ∙ et,
+              no-byte c (held (phased s last) p) (getD xs (p .at) 0) takes (ap (λ (n : ℕ). isData (phaseOf n)) e),
+            )
 
-      -- any other bit but that of a byte, and a port that the general step gives
-      pub stop-steps : (last ≡ 7 → ⊥) → {t : Port} → t ≡ stepOf c (held (phased s last) p) (getD xs (p .at) 0)
-          → Running c put m xs w₀ (worldOf t armed act buf ws) old new size (p .at + 1)
-      stop-steps n et = quiet-to (sym et, no-byte c (held (phased s last) p) (getD xs (p .at) 0) takes (data-by-last last ∙ ne-eqb last 7 n))
+        pub stop-enters-newer : isNewer c ≡ true
+            → Running c put m xs w₀ (worldOf (instructed (held (phased s last) p) v (v % 0x8000) (s .left)) armed act buf ws) old new size (p .at + 1)
+        stop-enters-newer n =
+            entered-to (enters-newer c (held (phased s last) p) v n down (newer-none-left c (held (phased s last) p) (k .reached .apt .sound) n))
+
+        module _ (n : isNewer c ≡ false) where
+          pub stop-enters-older : reaches c (v % 0x2000) ≡ true
+              → Running c put m xs w₀ (worldOf (instructed (held (phased s last) p) v (v % 0x2000) (v / 0x2000 % 4 + 1)) armed act buf ws) old new size (p .at + 1)
+          stop-enters-older w = entered-to (enters-older c (held (phased s last) p) v n down w)
+
+          -- a start above the top
+          pub stop-enters-none : reaches c (v % 0x2000) ≡ false
+              → Running c put m xs w₀ (worldOf (idle (s .csb) true (s .settings)) armed act buf ws) old new size (p .at + 1)
+          stop-enters-none w = entered-to (enters-none c (held (phased s last) p) v n down w)
+
+      -- the last bit of a byte
+      module _ (e : last ≡ 7) (v : ℕ) (ev : v ≡ shiftedIn (s .used .lsb) (p .value) (p .bits) (bitAt (getD xs (p .at) 0) (lineOf c (phased s last)))) where
+        pub stop-whole : Next c xs (phased s last) i (Whole (s .read) (s .address) v)
+            (afterByte c (phased s last) (settingsOnByte c (phased s last) v)) (p .at + 1)
+        stop-whole =
+            let w = byte-whole c (held (phased s last) p) (k .reached .apt .sound) (getD xs (p .at) 0) takes (ap phaseOf e) (filled e) in
+            next-to (w .0 ∙ ap (Whole (s .read) (s .address)) (sym ev))
+            (w .1 ∙ ap (λ (n : ℕ). afterByte c (phased s last) (settingsOnByte c (phased s last) n)) (sym ev))
+
+        -- q is the port with the settings after it
+        module _ {q : Port} (eq : q ≡ settled s (settingsOnByte c (phased s last) v)) where
+          byte-to : (P : Port → Type 0) (f : Port → Port)
+              → (P (settled s (settingsOnByte c (phased s last) v))
+              → afterByte c (phased s last) (settingsOnByte c (phased s last) v) ≡ f (settled s (settingsOnByte c (phased s last) v)))
+              → P q → Next c xs (phased s last) i (Whole (s .read) (s .address) v) (f q) (p .at + 1)
+          byte-to P f g =
+              subst (λ (q : Port). P q → Next c xs (phased s last) i (Whole (s .read) (s .address) v) (f q) (p .at + 1)) (sym eq)
+              (λ o. subst (λ (t : Port). Next c xs (phased s last) i (Whole (s .read) (s .address) v) t (p .at + 1)) (g o) stop-whole)
+
+          module _ (n : isNewer c ≡ true) where
+            none : s .left ≡ 0
+            none = newer-none-left c (held (phased s last) p) (k .reached .apt .sound) n
+
+            pub stop-single : q .used .single ≡ true → Next c xs (phased s last) i (Whole (s .read) (s .address) v) (phased (restarted q) 15) (p .at + 1)
+            stop-single = byte-to (λ (q : Port). q .used .single ≡ true) (λ (q : Port). phased (restarted q) 15) (after-single c (phased s last) _ n down none)
+
+            pub stop-next : (a : ℕ) → (q .used .single ≡ false) × (a ≡ nextAddress (q .used .ascending) (q .address))
+                → Next c xs (phased s last) i (Whole (s .read) (s .address) v) (phased (going q a (q .left)) last) (p .at + 1)
+            stop-next a =
+                byte-to (λ (q : Port). (q .used .single ≡ false) × (a ≡ nextAddress (q .used .ascending) (q .address))) (λ (q : Port). phased (going q a (q .left)) last)
+                (λ o. after-next c (phased s last) _ n down (ap phaseOf e) none (o .0) ∙ rw (o .1) refl)
+
+          module _ (n : isNewer c ≡ false) where
+            pub stop-run : (a l : ℕ)
+                → (runsOut c (q .left) (q .address) (q .used .lsb) ≡ false)
+                × (a ≡ nextAddress (q .used .lsb) (q .address))
+                × (l ≡ cond (isCounted (q .left)) (q .left - 1) (q .left))
+                → Next c xs (phased s last) i (Whole (s .read) (s .address) v) (phased (going q a l) last) (p .at + 1)
+            stop-run a l =
+                byte-to (λ (q : Port). (runsOut c (q .left) (q .address) (q .used .lsb) ≡ false) × (a ≡ nextAddress (q .used .lsb) (q .address)) × (l ≡ cond (isCounted (q .left)) (q .left - 1) (q .left)))
+                (λ (q : Port). phased (going q a l) last)
+                (λ o. after-run c (phased s last) _ n down (ap phaseOf e) (o .0) ∙ rw (o .1, o .2) refl)
+
+            pub stop-run-ends : runsOut c (q .left) (q .address) (q .used .lsb) ≡ true
+                → Next c xs (phased s last) i (Whole (s .read) (s .address) v) (idle (q .csb) (q .sclk) (q .settings)) (p .at + 1)
+            stop-run-ends =
+                byte-to (λ (q : Port). runsOut c (q .left) (q .address) (q .used .lsb) ≡ true) (λ (q : Port). idle (q .csb) (q .sclk) (q .settings))
+                (after-run-ends c (phased s last) _ n down)
+
+      -- a bit that is passed over
+      pub stop-passes : (last ≡ 15 → ⊥) → (last ≡ 7 → ⊥)
+          → Running c put m xs w₀ (worldOf (leveled (held (phased s last) p) (s .csb) true) armed act buf ws) old new size (p .at + 1)
+      stop-passes n o =
+          let d : phaseOf last ≡ Rest = rw (ne-eqb last 15 n, ne-eqb last 7 o) refl in
+          quiet-to (
+            bit-passed c (held (phased s last) p) (k .reached .apt .sound) (getD xs (p .at) 0) takes d,
+            no-byte c (held (phased s last) p) (getD xs (p .at) 0) takes (ap isData d),
+          )

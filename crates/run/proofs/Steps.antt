@@ -1,30 +1,30 @@
 -- The samples at which a scan stops: what each makes of the port, field by field, and what it completes.
-use Prim.Native.Nat.{ℕ, _+_, _%_, _≤_, _<_}
-use mathlib.Core.Path.{_≡_, refl, sym, _∙_, ap, subst}
-use mathlib.Core.Bool.{Bool, true, false, cond, not, _&&_, _||_, false≢true, and-true, and-false}
+use Prim.Native.Nat.{ℕ, _+_, _-_, _/_, _%_, _<_, _≤_}
+use mathlib.Core.Path.{_≡_, refl, sym, _∙_, ap}
+use mathlib.Core.Bool.{Bool, true, false, cond, not, _&&_, false≢true, and-true, and-false}
 use native.Mathlib.Omega.{arith}
-use lib.Dec.{eqb, ltb, leb}
-use borrow.Author.Tests.{eqb-true, ne-eqb, leb-true}
+use lib.Dec.{eqb, leb}
+use borrow.Author.Tests.{eqb-true, ne-eqb, leb-false, not-true}
 use Rattle.bits.specs.Bits.{bitAt, shiftedIn}
-use Rattle.bits.proofs.Cases.{each}
+use Rattle.bits.proofs.Cases.{each, and-left, and-right}
 use Rattle.chip.specs.declared.Chip.{Chip}
 use Rattle.chip.specs.declared.Chip.the-variants.{Newer, Older}
 use Rattle.chip.specs.Chip.{isNewer}
 use Rattle.settings.specs.declared.Settings.{Settings}
 use Rattle.settings.specs.declared.InUse.{InUse}
-use Rattle.settings.specs.Settings.{inUseOf, counting, nextAddress, newerAfter}
+use Rattle.settings.specs.Settings.{inUseOf, counting, nextAddress, newerAfter, olderAfter, settingsAfter}
 use Rattle.session.specs.declared.Phase.{Phase}
 use Rattle.session.specs.declared.Phase.the-variants.{Rest, Instruction, Data}
 use Rattle.session.specs.declared.Port.{Port}
-use Rattle.session.specs.declared.Event.{Event}
-use Rattle.session.specs.declared.Event.the-variants.{Nothing, Whole, Aborted, Ended}
-use Rattle.session.specs.State.{resting, starting, isData, isCounted, mayStall, soundPort}
-use Rattle.session.specs.Step.{csbOf, sclkOf, sdioOf, takesBit, frameStarts, frameEnds, valueWith, usedOn, entered, withInstructionBit, withDataBit, stepOf}
+use Rattle.session.specs.declared.Event.the-variants.{Nothing, Whole}
+use Rattle.session.specs.State.{idle, resting, isData, isCounted, mayStall, soundPort}
+use Rattle.session.specs.Step.{csbOf, sclkOf, takesBit, entered, withInstructionBit, settingsOnByte, runsOut, afterByte, withDataBit, stepOf}
 use Rattle.session.specs.Event.{bitEvent, endEvent, eventOf}
 use Rattle.session.proofs.Form.{Form, rests, instructs, has-data, stalls, passes, sound-form}
 use Rattle.trace.specs.Piece.{lastOf, lineOf}
 use Rattle.trace.proofs.Pieces.{on-line}
 use Rattle.run.specs.Phased.{phaseOf, phased}
+use Rattle.run.specs.Reach.{reaches}
 
 -- a port with other levels
 abbrev pub leveled : Port → Bool → Bool → Port
@@ -56,53 +56,65 @@ started t sclk = record {
   left = t .left;
 }
 
--- the last bit of an instruction, of a newer chip
-abbrev pub instructed : Port → ℕ → Port
-instructed t v = record {
+-- the last bit of an instruction
+abbrev pub instructed : Port → ℕ → ℕ → ℕ → Port
+instructed t v address left = record {
   csb = t .csb;
   sclk = true;
   phase = Data;
   bits = 0;
   value = 0;
-  address = v % 0x8000;
+  address = address;
   read = leb 0x8000 v;
   settings = t .settings;
   used = t .used;
-  left = t .left;
+  left = left;
 }
 
--- the last bit of a byte, where a new instruction starts
-abbrev pub restarted : Port → Port
-restarted t = record {
-  csb = t .csb;
-  sclk = true;
-  phase = Instruction;
-  bits = 0;
-  value = 0;
-  address = 0;
-  read = false;
-  settings = t .settings;
-  used = inUseOf (t .settings);
-  left = t .left;
-}
-
--- the last bit of a byte, where only the address changes
-abbrev pub byteAt : Port → ℕ → Port
-byteAt t a = record {
+-- the last bit of a byte, with the settings after it
+abbrev pub settled : Port → Settings → Port
+settled t u = record {
   csb = t .csb;
   sclk = true;
   phase = t .phase;
   bits = 0;
   value = 0;
-  address = a;
+  address = t .address;
   read = t .read;
-  settings = t .settings;
+  settings = u;
   used = t .used;
   left = t .left;
 }
 
-abbrev pub byteTaken : Port → Port
-byteTaken t = byteAt t (nextAddress (t .used .ascending) (t .address))
+-- then a new instruction
+abbrev pub restarted : Port → Port
+restarted q = record {
+  csb = q .csb;
+  sclk = q .sclk;
+  phase = Instruction;
+  bits = q .bits;
+  value = q .value;
+  address = 0;
+  read = false;
+  settings = q .settings;
+  used = inUseOf (q .settings);
+  left = q .left;
+}
+
+-- or more data
+abbrev pub going : Port → ℕ → ℕ → Port
+going q address left = record {
+  csb = q .csb;
+  sclk = q .sclk;
+  phase = q .phase;
+  bits = q .bits;
+  value = q .value;
+  address = address;
+  read = q .read;
+  settings = q .settings;
+  used = q .used;
+  left = left;
+}
 
 start-form : {c : Chip} {t : Port} → Form c t → (x : ℕ) → t .csb ≡ true → csbOf x ≡ false → eqb (t .left) 0 ≡ true → stepOf c t x ≡ started t (bitAt x 1)
 unfolding stepOf
@@ -138,74 +150,121 @@ module _ (c : Chip) (t : Port) (x : ℕ) where
   unfolding eventOf bitEvent
   no-byte b d = rw (b, d) refl
 
--- SCLK rises: the last bit of a byte
+-- SCLK rises: the last bit of an instruction
+instruction-form : {c : Chip} {t : Port} → Form c t → (x : ℕ) → takesBit t x ≡ true → t .phase ≡ Instruction → t .bits ≡ 15
+    → stepOf c t x ≡ entered c (shiftedIn (t .used .lsb) (t .value) (t .bits) (bitAt x 2)) (t .settings) (t .used)
+unfolding stepOf withInstructionBit
+instruction-form (rests k t) x b d e = let z = ap lastOf d in absurd (omega (arith, z))
+instruction-form (instructs k n v t u g f) x b d e = rw (b, e) refl
+instruction-form (has-data k n v a r l t u g f q w) x b d e = let z = ap lastOf d in absurd (omega (arith, z))
+instruction-form (stalls k a r l t u f e d) x b q z = absurd (false≢true b)
+instruction-form (passes k t e) x b d z = let y = ap lastOf d in absurd (omega (arith, y))
+
+-- the last bit of a byte
 byte-form : {c : Chip} {t : Port} → Form c t → (x : ℕ) → takesBit t x ≡ true → t .phase ≡ Data → t .bits ≡ 7
-    → eventOf c t x ≡ Whole (t .read) (t .address) (shiftedIn (t .used .lsb) (t .value) (t .bits) (bitAt x (lineOf c t)))
-unfolding eventOf bitEvent
+    → let v = shiftedIn (t .used .lsb) (t .value) (t .bits) (bitAt x (lineOf c t)) in
+    (eventOf c t x ≡ Whole (t .read) (t .address) v) × (stepOf c t x ≡ afterByte c t (settingsOnByte c t v))
+unfolding eventOf bitEvent stepOf withDataBit
 byte-form (rests k t) x b d n = let z = ap lastOf d in absurd (omega (arith, z))
 byte-form (instructs k n v t u g f) x b d e = let z = ap lastOf d in absurd (omega (arith, z))
-byte-form {c} (has-data k n v a r l t u g f q w) x b d e = rw (b, e, on-line (r && counting c u .sdo) x) refl
+byte-form {c} (has-data k n v a r l t u g f q w) x b d e =
+    let line = on-line (r && counting c u .sdo) x in
+    (rw (b, e, line) refl, rw (b, e, line) refl)
 byte-form (stalls k a r l t u f e d) x b q z = absurd (false≢true b)
 byte-form (passes k t e) x b d n = let z = ap lastOf d in absurd (omega (arith, z))
 
-kept : (r : Bool) (t : Settings) (a v : ℕ) → (r || leb 2 a) ≡ true → cond r t (newerAfter t a v) ≡ t
-unfolding newerAfter
-kept true t a v h = refl
-kept false t a v h =
-    let l = leb-true 2 a h in
+-- a bit that is passed over
+passed-form : {c : Chip} {t : Port} → Form c t → (x : ℕ) → takesBit t x ≡ true → t .phase ≡ Rest → stepOf c t x ≡ leveled t (t .csb) true
+unfolding stepOf
+passed-form (rests k t) x b d = absurd (false≢true b)
+passed-form (instructs k n v t u g f) x b d = let z = ap lastOf d in absurd (omega (arith, z))
+passed-form (has-data k n v a r l t u g f q w) x b d = let z = ap lastOf d in absurd (omega (arith, z))
+passed-form (stalls k a r l t u f e d) x b q = absurd (false≢true b)
+passed-form (passes k t e) x b d =
+    let h = and-left (not (csbOf x) && not k) (sclkOf x) b in
+    rw (b, not-true (csbOf x) (and-left (not (csbOf x)) (not k) h), and-right (not (csbOf x) && not k) (sclkOf x) b) refl
+
+-- a newer chip counts no bytes
+none-left : (c : Chip) {t : Port} → Form c t → isNewer c ≡ true → t .left ≡ 0
+none-left Newer (rests k t) h = refl
+none-left Newer (instructs k n v t u g f) h = refl
+none-left Newer (has-data k n v a r l t u g f q w) h = eqb-true l 0 w
+none-left Newer (stalls k a r l t u f e d) h = eqb-true l 0 d
+none-left Newer (passes k t e) h = refl
+none-left (Older part top) g h = absurd (false≢true h)
+
+module _ (c : Chip) (t : Port) (f : soundPort c t ≡ true) where
+  pub newer-none-left : isNewer c ≡ true → t .left ≡ 0
+  newer-none-left = none-left c (sound-form c t f)
+
+  module _ (x : ℕ) (b : takesBit t x ≡ true) where
+    pub instruction-whole : t .phase ≡ Instruction → t .bits ≡ 15
+        → stepOf c t x ≡ entered c (shiftedIn (t .used .lsb) (t .value) (t .bits) (bitAt x 2)) (t .settings) (t .used)
+    instruction-whole = instruction-form (sound-form c t f) x b
+
+    pub byte-whole : t .phase ≡ Data → t .bits ≡ 7
+        → let v = shiftedIn (t .used .lsb) (t .value) (t .bits) (bitAt x (lineOf c t)) in
+        (eventOf c t x ≡ Whole (t .read) (t .address) v) × (stepOf c t x ≡ afterByte c t (settingsOnByte c t v))
+    byte-whole = byte-form (sound-form c t f) x b
+
+    pub bit-passed : t .phase ≡ Rest → stepOf c t x ≡ leveled t (t .csb) true
+    bit-passed = passed-form (sound-form c t f) x b
+
+-- What a whole instruction enters, field by field.
+pub enters-newer : (c : Chip) (t : Port) (v : ℕ) → isNewer c ≡ true → t .csb ≡ false → t .left ≡ 0
+    → entered c v (t .settings) (t .used) ≡ instructed t v (v % 0x8000) (t .left)
+unfolding entered
+enters-newer Newer t v n low none = rw (low, none) refl
+enters-newer (Older part top) t v n low none = absurd (false≢true n)
+
+pub enters-older : (c : Chip) (t : Port) (v : ℕ) → isNewer c ≡ false → t .csb ≡ false → reaches c (v % 0x2000) ≡ true
+    → entered c v (t .settings) (t .used) ≡ instructed t v (v % 0x2000) (v / 0x2000 % 4 + 1)
+unfolding entered
+enters-older Newer t v n low w = absurd (false≢true (sym n))
+enters-older (Older part top) t v n low w = rw (w, low) refl
+
+pub enters-none : (c : Chip) (t : Port) (v : ℕ) → isNewer c ≡ false → t .csb ≡ false → reaches c (v % 0x2000) ≡ false
+    → entered c v (t .settings) (t .used) ≡ idle (t .csb) true (t .settings)
+unfolding entered
+enters-none Newer t v n low w = absurd (false≢true (sym n))
+enters-none (Older part top) t v n low w = rw (w, low) refl
+
+-- What comes after a whole byte, field by field.
+pub after-single : (c : Chip) (t : Port) (u : Settings) → isNewer c ≡ true → t .csb ≡ false → t .left ≡ 0 → t .used .single ≡ true
+    → afterByte c t u ≡ restarted (settled t u)
+after-single Newer t u n low none o = rw (o, low, none) refl
+after-single (Older part top) t u n low none o = absurd (false≢true n)
+
+pub after-next : (c : Chip) (t : Port) (u : Settings) → isNewer c ≡ true → t .csb ≡ false → t .phase ≡ Data → t .left ≡ 0 → t .used .single ≡ false
+    → afterByte c t u ≡ going (settled t u) (nextAddress (t .used .ascending) (t .address)) (t .left)
+after-next Newer t u n low d none o = rw (o, low, d, none) refl
+after-next (Older part top) t u n low d none o = absurd (false≢true n)
+
+pub after-run : (c : Chip) (t : Port) (u : Settings) → isNewer c ≡ false → t .csb ≡ false → t .phase ≡ Data
+    → runsOut c (t .left) (t .address) (t .used .lsb) ≡ false
+    → afterByte c t u ≡ going (settled t u) (nextAddress (t .used .lsb) (t .address)) (cond (isCounted (t .left)) (t .left - 1) (t .left))
+after-run Newer t u n low d o = absurd (false≢true (sym n))
+after-run (Older part top) t u n low d o = rw (o, low, d) refl
+
+pub after-run-ends : (c : Chip) (t : Port) (u : Settings) → isNewer c ≡ false → t .csb ≡ false
+    → runsOut c (t .left) (t .address) (t .used .lsb) ≡ true → afterByte c t u ≡ idle (t .csb) true u
+after-run-ends Newer t u n low o = absurd (false≢true (sym n))
+after-run-ends (Older part top) t u n low o = rw (o, low) refl
+
+-- The settings after a whole byte: only a write up to 0x0004 can change them.
+pub settings-changed : (t u : Settings) (r b : Bool) → (not r && b) ≡ true → u ≡ cond r t u
+settings-changed t u true b h = absurd (false≢true h)
+settings-changed t u false b h = refl
+
+pub settings-kept : (c : Chip) (t : Settings) (r : Bool) (a v : ℕ) {n : ℕ} → (not r && leb a n) ≡ false → 4 ≤ n → t ≡ cond r t (settingsAfter c t a v)
+unfolding newerAfter olderAfter
+settings-kept c t true a v h g = refl
+settings-kept Newer t false a v {n} h g =
+    let l = leb-false a n h in
     rw (ne-eqb a 0 (λ (z : a ≡ 0). omega arith), ne-eqb a 1 (λ (z : a ≡ 1). omega arith)) refl
-
--- where it changes only the address
-taken-form : {t : Port} → Form Newer t → (x : ℕ) → takesBit t x ≡ true → t .phase ≡ Data → t .bits ≡ 7 → t .used .single ≡ false
-    → (t .read || leb 2 (t .address)) ≡ true → stepOf Newer t x ≡ byteTaken t
-unfolding stepOf withDataBit
-taken-form (rests k t) x b d e o h = let z = ap lastOf d in absurd (omega (arith, z))
-taken-form (instructs k n v t u g f) x b d e o h = let z = ap lastOf d in absurd (omega (arith, z))
-taken-form (has-data k n v a r l t u g f q w) x b d e o h = rw (b, e, o, kept r t a _ h, eqb-true l 0 w) refl
-taken-form (stalls k a r l t u f e d) x b q z o h = absurd (false≢true b)
-taken-form (passes k t e) x b d z o h = let z = ap lastOf d in absurd (omega (arith, z))
-
--- where a new instruction starts
-single-form : {t : Port} → Form Newer t → (x : ℕ) → takesBit t x ≡ true → t .phase ≡ Data → t .bits ≡ 7 → t .used .single ≡ true
-    → (t .read || leb 2 (t .address)) ≡ true → stepOf Newer t x ≡ restarted t
-unfolding stepOf withDataBit
-single-form (rests k t) x b d e o h = let z = ap lastOf d in absurd (omega (arith, z))
-single-form (instructs k n v t u g f) x b d e o h = let z = ap lastOf d in absurd (omega (arith, z))
-single-form (has-data k n v a r l t u g f q w) x b d e o h = rw (b, e, o, kept r t a _ h, eqb-true l 0 w) refl
-single-form (stalls k a r l t u f e d) x b q z o h = absurd (false≢true b)
-single-form (passes k t e) x b d z o h = let z = ap lastOf d in absurd (omega (arith, z))
-
--- the last bit of an instruction
-instructed-form : {t : Port} → Form Newer t → (x : ℕ) → takesBit t x ≡ true → t .phase ≡ Instruction → t .bits ≡ 15
-    → stepOf Newer t x ≡ instructed t (shiftedIn (t .used .lsb) (t .value) (t .bits) (bitAt x 2))
-unfolding stepOf withInstructionBit entered
-instructed-form (rests k t) x b d e = let z = ap lastOf d in absurd (omega (arith, z))
-instructed-form (instructs k n v t u g f) x b d e = rw (b, e) refl
-instructed-form (has-data k n v a r l t u g f q w) x b d e = let z = ap lastOf d in absurd (omega (arith, z))
-instructed-form (stalls k a r l t u f e d) x b q z = absurd (false≢true b)
-instructed-form (passes k t e) x b d z = let y = ap lastOf d in absurd (omega (arith, y))
-
-module _ (c : Chip) (t : Port) (x : ℕ) (f : soundPort c t ≡ true) (b : takesBit t x ≡ true) where
-  pub byte-whole : t .phase ≡ Data → t .bits ≡ 7
-      → eventOf c t x ≡ Whole (t .read) (t .address) (shiftedIn (t .used .lsb) (t .value) (t .bits) (bitAt x (lineOf c t)))
-  byte-whole d e = byte-form (sound-form c t f) x b d e
-
-  newer-form : isNewer c ≡ true → Form Newer t × (stepOf c t x ≡ stepOf Newer t x)
-  newer-form n = by c n (sound-form c t f)
-    where
-      by : (k : Chip) → isNewer k ≡ true → Form k t → Form Newer t × (stepOf k t x ≡ stepOf Newer t x)
-      by Newer n g = (g, refl)
-      by (Older part top) n g = absurd (false≢true n)
-
-  pub byte-taken : isNewer c ≡ true → t .phase ≡ Data → t .bits ≡ 7 → t .used .single ≡ false → (t .read || leb 2 (t .address)) ≡ true → stepOf c t x ≡ byteTaken t
-  byte-taken n d e o h = newer-form n .1 ∙ taken-form (newer-form n .0) x b d e o h
-
-  pub byte-single : isNewer c ≡ true → t .phase ≡ Data → t .bits ≡ 7 → t .used .single ≡ true → (t .read || leb 2 (t .address)) ≡ true → stepOf c t x ≡ restarted t
-  byte-single n d e o h = newer-form n .1 ∙ single-form (newer-form n .0) x b d e o h
-
-  pub instruction-taken : isNewer c ≡ true → t .phase ≡ Instruction → t .bits ≡ 15
-      → stepOf c t x ≡ instructed t (shiftedIn (t .used .lsb) (t .value) (t .bits) (bitAt x 2))
-  instruction-taken n d e = newer-form n .1 ∙ instructed-form (newer-form n .0) x b d e
+settings-kept (Older part top) t false a v {n} h g =
+    let l = leb-false a n h in
+    rw (ne-eqb a 0 (λ (z : a ≡ 0). omega arith), ne-eqb a 4 (λ (z : a ≡ 4). omega arith)) refl
 
 -- the line: only in data can the port be reading
 counted-line : (c : Chip) (r : Bool) (u : InUse) → _≡_ {A = ℕ} (cond ((r && u .sdo) && isNewer c) 3 2) (cond (r && counting c u .sdo) 3 2)

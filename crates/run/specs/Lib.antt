@@ -1,3 +1,4 @@
 pub mod Reading
 pub mod Contracts
 pub mod Phased
+pub mod Reach

@@ -6,6 +6,7 @@ ghost use Rattle.registers.specs.Banks.{banks};
 ghost use Rattle.records.specs.Contracts.{endOf};
 ghost use Rattle.run.specs.Reading.{world};
 ghost use Rattle.run.specs.Phased.{phaseOf, phased};
+ghost use Rattle.run.specs.Reach.{reaches};
 ghost use Rattle.run.specs.Contracts.{Passing, Past, Ready, Ran};
 use bits::bit_at;
 use bits::shift_in;
@@ -19,7 +20,9 @@ use session::Event;
 use session::Phase;
 use session::Port;
 use session::Session;
+use session::left_after;
 use session::may_stall;
+use session::runs_out;
 use settings::Settings;
 use settings::next_address;
 use sizes::RECORD;
@@ -138,6 +141,16 @@ fn phase_of(last: u8) -> Phase
     Phase::Rest
 }
 
+// Whether a chip has an address that an instruction names: an older one up to its top.
+fn reaches(chip: Chip, address: u16) -> bool
+    ensures { λ r. ⌜ r ≡ reaches chip address ⌝ }
+{
+    match chip {
+        Chip::Newer => true,
+        Chip::Older { part: _, top } => (address as u64) <= top,
+    }
+}
+
 // A port with its phase.
 fn phased(s: Port, last: u8) -> Port
     ensures { λ r. ⌜ r ≡ phased s last ⌝ }
@@ -244,25 +257,31 @@ pub fn run_samples(
             );
             armed = took.armed;
             at = took.at;
-            last = 0;
+        } else if last == 15 {
+            // SCLK rises: the last bit of an instruction.
+            let value = shift_in(s.used.lsb, s.value, s.bits, bit_at(x, 2));
+            s.sclk = true;
             s.bits = 0;
             s.value = 0;
-            s.address = 0;
-            s.read = false;
-            s.used.lsb = false;
-            s.used.ascending = false;
-            s.used.sdo = false;
-            s.used.single = false;
-            s.left = 0;
-            continue;
-        }
-        // SCLK rises: the last bit of a piece.
-        if last == 7 {
+            s.read = 0x8000 <= value;
+            last = 7;
+            if newer {
+                s.address = value % 0x8000;
+                continue;
+            }
+            s.address = value % 0x2000;
+            s.left = (value / 0x2000 % 4 + 1) as u8;
+            if reaches(chip, s.address) {
+                continue;
+            }
+        } else if last == 7 {
+            // SCLK rises: the last bit of a byte.
             let value = shift_in(s.used.lsb, s.value, s.bits, bit_at(x, line));
+            let byte = value as u8;
             let event = Event::Whole {
                 read: s.read,
                 address: s.address,
-                byte: value as u8,
+                byte: byte,
             };
             let settings = s.settings;
             let took = pass_event(
@@ -280,11 +299,16 @@ pub fn run_samples(
             );
             armed = took.armed;
             at = took.at;
-            if newer & (s.read | (2 <= s.address)) {
-                // No setting changes: the next address, or a new instruction.
-                s.sclk = true;
-                s.bits = 0;
-                s.value = 0;
+            s.sclk = true;
+            s.bits = 0;
+            s.value = 0;
+            // No chip has a setting above 0x0004.
+            if !s.read & (s.address <= 0x0004) {
+                let before = s.settings;
+                let settings = before.after(chip, s.address, byte);
+                s.settings = settings;
+            }
+            if newer {
                 if s.used.single {
                     last = 15;
                     s.address = 0;
@@ -302,46 +326,27 @@ pub fn run_samples(
                 s.address = next_address(s.used.ascending, s.address);
                 continue;
             }
-            let next = phased(s, last).step(chip, x);
-            let settings = next.settings;
-            let used = next.used;
-            let phase = next.phase;
-            s.csb = next.csb;
-            s.sclk = next.sclk;
-            s.bits = next.bits;
-            s.value = next.value;
-            s.address = next.address;
-            s.read = next.read;
-            s.settings = settings;
-            s.used = used;
-            s.left = next.left;
-            last = last_of(phase);
-            continue;
-        }
-        if (last == 15) & newer {
-            let value = shift_in(s.used.lsb, s.value, s.bits, bit_at(x, 2));
+            if !runs_out(chip, s.left, s.address, s.used.lsb) {
+                s.address = next_address(s.used.lsb, s.address);
+                s.left = left_after(s.left);
+                continue;
+            }
+        } else {
+            // SCLK rises: a bit that an older chip passes over.
             s.sclk = true;
-            s.bits = 0;
-            s.value = 0;
-            s.address = value % 0x8000;
-            s.read = 0x8000 <= value;
-            last = 7;
             continue;
         }
-        let next = phased(s, last).step(chip, x);
-        let settings = next.settings;
-        let used = next.used;
-        let phase = next.phase;
-        s.csb = next.csb;
-        s.sclk = next.sclk;
-        s.bits = next.bits;
-        s.value = next.value;
-        s.address = next.address;
-        s.read = next.read;
-        s.settings = settings;
-        s.used = used;
-        s.left = next.left;
-        last = last_of(phase);
+        // The frame has ended, or the rest of it is passed over.
+        last = 0;
+        s.bits = 0;
+        s.value = 0;
+        s.address = 0;
+        s.read = false;
+        s.used.lsb = false;
+        s.used.ascending = false;
+        s.used.sdo = false;
+        s.used.single = false;
+        s.left = 0;
     }
     let session = Session {
         port: phased(s, last),

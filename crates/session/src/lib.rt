@@ -9,7 +9,9 @@ pub use events::is_data;
 use settings::InUse;
 use settings::Settings;
 pub use step::is_counted;
+pub use step::left_after;
 pub use step::may_stall;
+pub use step::runs_out;
 pub use step::takes_bit;
 
 // The bytes left where a run of an older chip streams.

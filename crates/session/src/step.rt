@@ -90,7 +90,7 @@ fn entered(chip: Chip, value: u16, settings: Settings, used: InUse) -> Port
 }
 
 // Whether a run ends with the byte at an address, of so many that are left.
-fn runs_out(chip: Chip, left: u8, address: u16, lsb: bool) -> bool
+pub fn runs_out(chip: Chip, left: u8, address: u16, lsb: bool) -> bool
     ensures { λ r. ⌜ r ≡ runsOut chip left address lsb ⌝ }
 {
     match chip {
@@ -105,7 +105,7 @@ fn runs_out(chip: Chip, left: u8, address: u16, lsb: bool) -> bool
 }
 
 // How many bytes are left after one.
-fn left_after(left: u8) -> u8
+pub fn left_after(left: u8) -> u8
     ensures { λ r. ⌜ r ≡ cond (isCounted left) (left - 1) left ⌝ }
 {
     if is_counted(left) { left - 1 } else { left }
