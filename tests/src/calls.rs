@@ -12,7 +12,7 @@ use crate::second::reader::{self, Banks, RECORD};
 use crate::second::session::Session;
 use crate::second::touched::words_for;
 use crate::second::Answer;
-use crate::tally::RecordTally;
+use crate::tally::{self, RecordTally};
 
 #[derive(Clone, Copy, Debug, PartialEq, Eq)]
 pub enum Call {
@@ -269,10 +269,8 @@ impl Tally {
 
     /// That a call gave these numbers so often, and no others.
     pub fn assert_numbers(&self, call: Call, numbers: &[usize], times: u64) {
-        for (number, &given) in self.numbers[call as usize].iter().enumerate() {
-            let expected = if numbers.contains(&number) { times..=u64::MAX } else { 0..=0 };
-            assert!(expected.contains(&given), "{call:?}: number {number} was given {given} times");
-        }
+        let given = &self.numbers[call as usize];
+        tally::assert_numbers(&format!("{call:?}"), given, numbers, times);
     }
 }
 

@@ -47,3 +47,11 @@ impl RecordTally {
         met("cuts of a byte", &self.cuts[1][1..8]);
     }
 }
+
+/// That a call gave these numbers so often, and no others; `given` counts each.
+pub fn assert_numbers(call: &str, given: &[u64], numbers: &[usize], times: u64) {
+    for (number, &given) in given.iter().enumerate() {
+        let expected = if numbers.contains(&number) { times..=u64::MAX } else { 0..=0 };
+        assert!(expected.contains(&given), "{call}: number {number} was given {given} times");
+    }
+}

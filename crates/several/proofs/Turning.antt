@@ -18,8 +18,8 @@ use Rattle.several.specs.declared.step.Moved.{Moved}
 use Rattle.several.specs.Samples.{seenBy}
 use Rattle.several.specs.State.{bytesOf}
 use Rattle.several.specs.Members.{stateOf}
-use Rattle.several.specs.Contracts.{sampleAt, recordBytes, Stepping, HasStepped}
-use Rattle.several.specs.Step.{onlyLevels, withClock, nextTurn, HasMoved}
+use Rattle.several.specs.Contracts.{sampleAt, nextTurn, recordBytes, Stepping, HasStepped}
+use Rattle.several.specs.Step.{onlyLevels, withClock, HasMoved}
 use Rattle.several.proofs.Still.{still-member, still-banks, still-record}
 
 module _ {m : List ℕ} {w : Member} {mem bytes old : List ℕ} {t : Turn} (ready : Stepping m w mem bytes old t) (chips : ℕ) where

@@ -1,4 +1,4 @@
--- What a turn of one chip at one sample asks and leaves, and what all turns leave.
+-- Document 02, Ask 10, in steps: what the turn of one chip at one sample asks and leaves.
 use Prim.Native.Nat.{ℕ, _+_, _*_, _/_, _<_, _≤_}
 use mathlib.Core.Path.{_≡_}
 use mathlib.Core.Bool.{true, cond}
@@ -19,17 +19,23 @@ use Rattle.several.specs.Members.{stateOf, memberWith, soundMember}
 abbrev pub sampleAt : List ℕ → ℕ → Sample
 sampleAt bytes j = sample (getD bytes (2 * j) 0) (getD bytes (2 * j + 1) 0)
 
+-- the turn of a chip at a sample, with the place of the next record
 abbrev pub turn : ℕ → ℕ → ℕ → Turn
 turn sample chip at = record { sample = sample; chip = chip; at = at }
 
--- the next turn, after so many bytes of records: that of the next chip, or at the next sample that of the first
-abbrev pub turnAfter : ℕ → Turn → ℕ → Turn
-turnAfter chips t size = cond (ltb (t .chip + 1) chips) (turn (t .sample) (t .chip + 1) (t .at + size)) (turn (t .sample + 1) 0 (t .at + size))
+-- the turn after it: that of the next chip, or at the next sample that of the first
+abbrev pub nextTurn : ℕ → Turn → ℕ → Turn
+nextTurn chips t at = cond (ltb (t .chip + 1) chips) (turn (t .sample) (t .chip + 1) at) (turn (t .sample + 1) 0 at)
 
--- the chip after its turn, and the bytes of its record
+-- the same, after so many bytes of records
+abbrev pub turnAfter : ℕ → Turn → ℕ → Turn
+turnAfter chips t size = nextTurn chips t (t .at + size)
+
+-- the chip after its turn
 abbrev pub turned : List ℕ → Member → List ℕ → List ℕ → Turn → State
 turned m w mem bytes t = stateAfter m (t .chip) (stateOf mem w) (sampleAt bytes (t .sample))
 
+-- the bytes of the record of its turn, or none
 abbrev pub recordBytes : List ℕ → Member → List ℕ → List ℕ → Turn → List ℕ
 recordBytes m w mem bytes t = bytesOf (recordAt m (t .chip) (stateOf mem w) (sampleAt bytes (t .sample)))
 

@@ -1,9 +1,8 @@
--- The parts of one chip's turn at one sample.
+-- Document 02, Ask 10, in steps: the parts of one chip's turn at one sample.
 use Prim.Native.Nat.{ℕ, _+_, _<_, _≤_}
 use mathlib.Core.Path.{_≡_}
-use mathlib.Core.Bool.{Bool, true, cond, not, _&&_, _||_}
+use mathlib.Core.Bool.{Bool, true, not, _&&_, _||_}
 use mathlib.Core.List.{List, []}
-use lib.Dec.{ltb}
 use lib.ListN.{length, set}
 use lib.Seq.{sets}
 use Rattle.bits.specs.Bits.{bitOf}
@@ -19,12 +18,10 @@ use Rattle.records.specs.BanksAfter.{banksAfter, armedAfter}
 use Rattle.records.specs.Records.{recordOf}
 use Rattle.records.specs.declared.Took.{Took}
 use Rattle.several.specs.declared.Member.{Member}
-use Rattle.several.specs.declared.Turn.{Turn}
 use Rattle.several.specs.declared.step.Moved.{Moved}
 use Rattle.several.specs.Samples.{Sample}
 use Rattle.several.specs.State.{State, stateAfter, given, isRead, numbered, recordAt, bytesOf}
 use Rattle.several.specs.Members.{stateOf, memberWith, soundMember}
-use Rattle.several.specs.Contracts.{turn}
 
 -- a sample moves the last levels alone: CSB is as it was, and no bit is taken
 abbrev pub onlyLevels : Bool → Bool → ℕ → Bool
@@ -44,10 +41,6 @@ withClock w sclk = record {
 -- a chip's session and mark, without its banks
 abbrev pub state : Session → Bool → State
 state s contended = record { session = s; contended = contended; banks = banks [] [] }
-
--- the next turn, with the place after the records so far
-abbrev pub nextTurn : ℕ → Turn → ℕ → Turn
-nextTurn chips t at = cond (ltb (t .chip + 1) chips) (turn (t .sample) (t .chip + 1) at) (turn (t .sample + 1) 0 at)
 
 -- the bytes of the record that an event gives of chip i, or none
 abbrev pub eventBytes : List ℕ → Banks → Settings → Event → ℕ → Bool → List ℕ

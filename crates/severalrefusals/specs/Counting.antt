@@ -1,4 +1,4 @@
--- What counting the records of several chips asks.
+-- Document 02, Ask 10, number 6 in steps: what counting the records of several chips asks.
 use Prim.Native.Nat.{ℕ, _<_}
 use mathlib.Core.Path.{_≡_}
 use mathlib.Core.Bool.{true}

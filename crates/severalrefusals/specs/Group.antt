@@ -1,10 +1,11 @@
--- The chips of a list by value, as the numbers are judged on them.
+-- Document 02, Ask 10, in steps: the chips of a list by value, as the numbers are judged on them.
 use Prim.Native.Nat.{ℕ, _+_, _≤_}
 use mathlib.Core.Path.{_≡_}
 use mathlib.Core.Bool.{cond}
 use mathlib.Core.List.{List, [], _∷_}
 use lib.Dec.{ltb, leb}
 use lib.ListN.{length, set, take, replicate}
+use Rattle.sessionbytes.specs.Layout.{sessionSize}
 use Rattle.several.specs.declared.Member.{Member}
 use Rattle.several.specs.Numbers.{severalNumber}
 use Rattle.severalrefusals.specs.declared.group.Group.{Group}
@@ -12,7 +13,7 @@ use Rattle.severalrefusals.specs.declared.group.Group.{Group}
 -- what stands where there is no chip
 abbrev pub absent : Member
 absent = record {
-  session = replicate 21 0;
+  session = replicate sessionSize 0;
   contended = 0;
   «active_start» = 0;
   «active_length» = 0;
@@ -20,6 +21,7 @@ absent = record {
   «buffer_length» = 0;
 }
 
+-- a group of no chips
 abbrev pub noGroup : Group
 noGroup = record { count = 0; members = replicate 8 absent }
 

@@ -1,7 +1,8 @@
--- A range of the code, as the numbers are defined on it.
+-- Document 02, Ask 10, in steps: a range of the code, as the numbers are defined on it.
 use Rattle.several.specs.Numbers as numbers
 use Rattle.severalrefusals.specs.declared.memory.Range as code
 
+-- its start and size
 abbrev pub rangeOf : code.Range → numbers.Range
 rangeOf r = record { start = r .start; size = r .size }
 

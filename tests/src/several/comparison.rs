@@ -10,7 +10,7 @@ use crate::guarded::{Against, Guarded};
 use crate::layout::CHIP_SIZE;
 use crate::library::several::{read_several, Lent};
 use crate::made::NOT_WRITTEN;
-use crate::tally::RecordTally;
+use crate::tally::{self, RecordTally};
 
 /// Guarded memory for everything that the call is lent.
 struct Memory {
@@ -111,10 +111,7 @@ impl Tally {
 
     /// That these numbers were given so often, and no others.
     pub fn assert_numbers(&self, numbers: &[usize], times: u64) {
-        for (number, &given) in self.numbers.iter().enumerate() {
-            let expected = if numbers.contains(&number) { times..=u64::MAX } else { 0..=0 };
-            assert!(expected.contains(&given), "number {number} was given {given} times");
-        }
+        tally::assert_numbers("several chips", &self.numbers, numbers, times);
     }
 }
 
