@@ -1,9 +1,8 @@
 //! The works of the table: what one call does, and how much slower than the
 //! second implementation it may be.
 
-use couplingnut_tests::chip::{sent, sent_older};
 use couplingnut_tests::second::reader::RECORD;
-use couplingnut_tests::second::sender::Order;
+use couplingnut_tests::second::sender::{self, Order};
 use couplingnut_tests::several::Given;
 
 use crate::inputs;
@@ -114,16 +113,19 @@ impl Work {
         Work { name, limit, units, job: Job::Read { top: None, map, samples, room } }
     }
 
+    /// Its samples are counted by the second implementation alone: a call of the
+    /// library here would be counted with the one that is measured.
     fn send(name: &'static str, settings: u64) -> Self {
         let limit = Limit { most: 1.2, stretch: 1.0 };
         let data = inputs::bytes(ORDERED);
-        let units = sent(&order(settings, &data)).len();
+        let units = sender::send(&order(settings, &data), &mut [0; ORDERED_SAMPLES]).count;
         Work { name, limit, units, job: Job::Send { top: None, settings, data } }
     }
 
     fn send_older(name: &'static str, settings: u64) -> Self {
         let data = inputs::bytes(ORDERED);
-        let units = sent_older(MOST_TOP, &older_order(settings, &data)).len();
+        let order = older_order(settings, &data);
+        let units = sender::send_older(MOST_TOP, &order, &mut [0; ORDERED_SAMPLES]).count;
         Work { name, limit: OLDER, units, job: Job::Send { top: Some(MOST_TOP), settings, data } }
     }
 
