@@ -4,8 +4,8 @@ use couplingnut_tests::chip::{sent, sent_older, Chip};
 use couplingnut_tests::generate::maps::{good_entries, map_of};
 use couplingnut_tests::generate::older::maps::good_older_map;
 use couplingnut_tests::generate::random::Random;
-use couplingnut_tests::second::older::{Older, Part};
-use couplingnut_tests::second::sender::Order;
+use second::older::{Older, Part};
+use second::sender::Order;
 
 const CSB: u8 = 1;
 /// A run may descend from here by as many registers as the longest frame has

@@ -4,8 +4,8 @@
 
 use couplingnut_tests::layout::ChipInC;
 use couplingnut_tests::library::several::{read_several, Lent};
-use couplingnut_tests::second::several::{self, ListedChip};
 use couplingnut_tests::several::Given;
+use second::several::{self, ListedChip};
 
 use crate::inputs;
 use crate::sides::{Side, Space};

@@ -6,11 +6,11 @@
 
 use couplingnut_tests::layout::ChipInC;
 use couplingnut_tests::library;
-use couplingnut_tests::second::map::map_test;
-use couplingnut_tests::second::older::{Older, Part};
-use couplingnut_tests::second::reader::{self, open, read, Banks};
-use couplingnut_tests::second::sender::{self, send, Order};
-use couplingnut_tests::second::touched::words_for;
+use second::map::map_test;
+use second::older::{Older, Part};
+use second::reader::{self, open, read, Banks};
+use second::sender::{self, send, Order};
+use second::touched::words_for;
 
 #[derive(Clone, Copy, Debug, PartialEq, Eq)]
 pub enum Side {

@@ -1,9 +1,9 @@
 //! The works of the table: what one call does, and how much slower than the
 //! second implementation it may be.
 
-use couplingnut_tests::second::reader::RECORD;
-use couplingnut_tests::second::sender::{self, Order};
 use couplingnut_tests::several::Given;
+use second::reader::RECORD;
+use second::sender::{self, Order};
 
 use crate::inputs;
 use crate::several;

@@ -4,7 +4,7 @@
 
 use crate::chip::Chip;
 use crate::generate::maps::entry_at;
-use crate::second::sender::Order;
+use second::sender::Order;
 
 /// The active bank, the buffer bank and the words of touched registers.
 pub type Kept = (Vec<u8>, Vec<u8>, Vec<u64>);

@@ -9,11 +9,11 @@ use crate::guarded::{Against, Guarded};
 use crate::layout::{from_bytes, to_bytes, SESSION_SIZE};
 use crate::library;
 use crate::made::{agreed, Agreed, NOT_WRITTEN};
-use crate::second::older::Older;
-use crate::second::reader::Banks;
-use crate::second::sender::Order;
-use crate::second::session::Session;
-use crate::second::{converter, frames, map, mend, reader, sender, setup, touched, Answer};
+use second::older::Older;
+use second::reader::Banks;
+use second::sender::Order;
+use second::session::Session;
+use second::{converter, frames, map, mend, reader, sender, setup, touched, Answer};
 
 /// The most that is lent as words.
 const MOST_BYTES: usize = 1 << 16;

@@ -7,12 +7,12 @@ use crate::guarded::{Against, Guarded};
 use crate::layout::{from_bytes, to_bytes, SessionBytes, SESSION_SIZE};
 use crate::library::{self, Lent};
 use crate::made::NOT_WRITTEN;
-use crate::second::older::Older;
-use crate::second::reader::{self, Banks, RECORD};
-use crate::second::session::Session;
-use crate::second::touched::words_for;
-use crate::second::Answer;
 use crate::tally::{self, RecordTally};
+use second::older::Older;
+use second::reader::{self, Banks, RECORD};
+use second::session::Session;
+use second::touched::words_for;
+use second::Answer;
 
 #[derive(Clone, Copy, Debug, PartialEq, Eq)]
 pub enum Call {

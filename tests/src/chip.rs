@@ -5,13 +5,13 @@ use crate::both::{open_by, read_by, send, send_older};
 use crate::calls::Given;
 use crate::generate::maps::count_of;
 use crate::layout::to_bytes;
-use crate::second::older::Older;
-use crate::second::reader::{Banks, RECORD};
-use crate::second::sender::Order;
-use crate::second::session::Session;
-use crate::second::settings::Settings;
-use crate::second::touched::words_for;
-use crate::second::Answer;
+use second::older::Older;
+use second::reader::{Banks, RECORD};
+use second::sender::Order;
+use second::session::Session;
+use second::settings::Settings;
+use second::touched::words_for;
+use second::Answer;
 
 /// What the sender's settings number names, in its order.
 const ORDERED: [Settings; 3] =

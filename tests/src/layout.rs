@@ -4,9 +4,9 @@
 
 use std::mem::offset_of;
 
-use crate::second::session::{Phase, Session, CSB, SCLK};
-use crate::second::settings::Settings;
-use crate::second::several::{BankRange, ListedChip};
+use second::session::{Phase, Session, CSB, SCLK};
+use second::settings::Settings;
+use second::several::{BankRange, ListedChip};
 
 pub const SESSION_SIZE: usize = 21;
 

@@ -1,9 +1,7 @@
-//! The rules of document 01 a second time, and inputs to try them on.
+//! What sets the proved programs and calls against the second implementation, and
+//! inputs to try them on.
 //!
-//! [`second`] is written from the document alone, without a look at the
-//! definitions that the verified programs are proved against: where the two
-//! agree on thousands of inputs, a slip in reading the document would have to
-//! have been made twice. [`generate`] makes those inputs from a seed.
+//! [`generate`] makes those inputs from a seed.
 //! [`program`] runs busread. [`library`] calls what is exported to C, and
 //! [`calls`] and [`made`] set those calls against the second implementation, with
 //! memory from [`guarded`] and sessions as in [`layout`]; [`both`] makes a call by
@@ -28,6 +26,5 @@ pub mod layout;
 pub mod library;
 pub mod made;
 pub mod program;
-pub mod second;
 pub mod several;
 pub mod tally;

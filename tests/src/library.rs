@@ -15,7 +15,7 @@ pub mod touched;
 pub use calls::{map_test, next_record, open, read, send_into};
 
 use crate::layout::SessionBytes;
-use crate::second::sender::Order;
+use second::sender::Order;
 
 /// Whether the library was there when this was built.
 pub const PRESENT: bool = cfg!(host_library);
@@ -57,7 +57,7 @@ pub struct Lent<'a> {
 mod calls {
     use super::Lent;
     use crate::layout::SessionBytes;
-    use crate::second::sender::Order;
+    use second::sender::Order;
 
     #[link(name = "couplingnut", kind = "static")]
     extern "C" {
@@ -207,7 +207,7 @@ mod calls {
 #[cfg(not(host_library))]
 mod calls {
     use super::Lent;
-    use crate::second::sender::Order;
+    use second::sender::Order;
 
     pub fn map_test(_: &[u8]) -> u32 {
         missing()

@@ -4,7 +4,7 @@
 use std::cell::RefCell;
 
 use crate::guarded::{Against, Guarded};
-use crate::second::Answer;
+use second::Answer;
 
 /// What the length holds before a call, so that one that is not written is seen.
 pub const NOT_WRITTEN: u64 = 0xDEAD_BEEF_DEAD_BEEF;

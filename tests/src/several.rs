@@ -8,10 +8,10 @@ pub use comparison::{read_by_both, Comparison};
 use crate::calls;
 use crate::generate::maps::count_of;
 use crate::layout::ChipInC;
-use crate::second::reader::{self, most_records};
-use crate::second::session::Session;
-use crate::second::several::{read_several, BankRange, ListedChip, RECORD};
-use crate::second::Answer;
+use second::reader::{self, most_records};
+use second::session::Session;
+use second::several::{read_several, BankRange, ListedChip, RECORD};
+use second::Answer;
 
 /// A sample: the selects, bit i for chip i, and then the other lines.
 pub type Sample = [u8; 2];

@@ -1,7 +1,7 @@
 //! What the records of compared calls came to, so that a test can say that they reached
 //! what it is about.
 
-use crate::second::reader::{CUT, READ};
+use second::reader::{CUT, READ};
 
 #[derive(Default)]
 pub struct RecordTally {

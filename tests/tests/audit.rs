@@ -24,7 +24,7 @@ fn references(text: &str) -> Vec<(String, Option<String>)> {
 
 fn path_of(file: &str) -> PathBuf {
     let root = repository();
-    if file.starts_with("tests/") || file.starts_with("host/couplingnut") {
+    if ["second/", "tests/"].iter().any(|folder| file.starts_with(folder)) {
         return root.join(file);
     }
     root.join("crates").join(file)

@@ -11,8 +11,8 @@ use couplingnut_tests::chip::sent;
 use couplingnut_tests::generate::maps::simple_map;
 use couplingnut_tests::generate::random::Random;
 use couplingnut_tests::program::{busread, output_of, path, run, Ended, Feed};
-use couplingnut_tests::second::map::map_test;
-use couplingnut_tests::second::sender::Order;
+use second::map::map_test;
+use second::sender::Order;
 
 fn repository() -> PathBuf {
     Path::new(env!("CARGO_MANIFEST_DIR")).join("..")

@@ -18,8 +18,8 @@ use couplingnut_tests::generate::maps::{good_map, simple_map};
 use couplingnut_tests::generate::random::Random;
 use couplingnut_tests::generate::{self, traces};
 use couplingnut_tests::program::{self, busread, busread_with_status, output_of, run, Ended, Feed};
-use couplingnut_tests::second::report::{report, report_to};
-use couplingnut_tests::second::sender::Order;
+use second::report::{report, report_to};
+use second::sender::Order;
 
 const SIGPIPE: i32 = 13;
 const WORKERS: usize = 2;

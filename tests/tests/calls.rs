@@ -12,8 +12,8 @@ use couplingnut_tests::generate::traces::{clocks, trace};
 use couplingnut_tests::generate::words::any_words;
 use couplingnut_tests::guarded::Against;
 use couplingnut_tests::layout::{to_bytes, SESSION_SIZE};
-use couplingnut_tests::second::reader::RECORD;
-use couplingnut_tests::second::session::{Phase, Session};
+use second::reader::RECORD;
+use second::session::{Phase, Session};
 
 /// The calls of a gate run, in lists.
 const CALLS: u64 = 500_000;

@@ -5,7 +5,7 @@ use couplingnut_tests::generate::maps::{
     count, entries_of, flagged_map_of, good_map, map_of, set_entry, simple_map, with_flags, Damage,
 };
 use couplingnut_tests::generate::random::Random;
-use couplingnut_tests::second::Answer;
+use second::Answer;
 
 /// A call of the converter.
 type Convert = fn(&[u8], &mut [u8]) -> Answer;

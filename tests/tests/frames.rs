@@ -10,7 +10,7 @@ use couplingnut_tests::generate::maps::good_map;
 use couplingnut_tests::generate::random::Random;
 use couplingnut_tests::generate::setups::{list_of, orders_of, Listed};
 use couplingnut_tests::library;
-use couplingnut_tests::second::Answer;
+use second::Answer;
 
 const LISTS: u64 = 60_000;
 

@@ -5,7 +5,7 @@ use std::collections::BTreeSet;
 
 use couplingnut_tests::generate;
 use couplingnut_tests::generate::maps::entry_at;
-use couplingnut_tests::second::report::report;
+use second::report::report;
 
 const INPUTS: u64 = 3_000;
 

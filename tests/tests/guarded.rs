@@ -8,7 +8,7 @@ use std::process::ExitStatus;
 
 use couplingnut_tests::guarded::{Against, Guarded};
 use couplingnut_tests::layout::ChipInC;
-use couplingnut_tests::second::several::BankRange;
+use second::several::BankRange;
 
 const SIGSEGV: i32 = 11;
 

@@ -7,8 +7,8 @@ use couplingnut_tests::generate::maps::{count, good_map, simple_map, with_flags,
 use couplingnut_tests::generate::random::Random;
 use couplingnut_tests::guarded::{Against, Guarded};
 use couplingnut_tests::library;
-use couplingnut_tests::second::map::map_test;
-use couplingnut_tests::second::sender::{send, Order};
+use second::map::map_test;
+use second::sender::{send, Order};
 
 const MAPS: u64 = 250_000;
 const ORDERS: u64 = 250_000;

@@ -7,10 +7,10 @@ use couplingnut_tests::generate::maps::{
     flagged_map_of, map_of, set_entry, simple_map, with_flags,
 };
 use couplingnut_tests::program::{busread, output_of, Feed};
-use couplingnut_tests::second::report::report;
-use couplingnut_tests::second::sender::Order;
-use couplingnut_tests::second::session::{next_address, Session};
-use couplingnut_tests::second::Answer;
+use second::report::report;
+use second::sender::Order;
+use second::session::{next_address, Session};
+use second::Answer;
 
 /// The samples that make these bits one frame: "for each bit b, 4b then 4b + 2".
 fn frame(bits: &str) -> Vec<u8> {

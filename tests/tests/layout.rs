@@ -9,9 +9,9 @@ use couplingnut_tests::guarded::Against;
 use couplingnut_tests::layout::{
     from_bytes, to_bytes, SessionBytes, FLAGS, LEFT_AT, PHASE_AT, VERSION,
 };
-use couplingnut_tests::second::older::{Older, Part};
-use couplingnut_tests::second::session::{Phase, Session, SCLK};
-use couplingnut_tests::second::settings::Settings;
+use second::older::{Older, Part};
+use second::session::{Phase, Session, SCLK};
+use second::settings::Settings;
 
 #[test]
 fn every_session_goes_to_bytes_and_back() {

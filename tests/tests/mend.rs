@@ -9,7 +9,7 @@ use couplingnut_tests::generate::maps::{
 use couplingnut_tests::generate::mends::{any_mending, scrambled_map, slipped_map, Mending};
 use couplingnut_tests::generate::random::Random;
 use couplingnut_tests::library;
-use couplingnut_tests::second::{self, Answer};
+use second::{self, Answer};
 
 const MAPS: u64 = 60_000;
 

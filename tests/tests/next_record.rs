@@ -9,7 +9,7 @@ use couplingnut_tests::generate::traces::{clocks, trace};
 use couplingnut_tests::generate::words::any_words;
 use couplingnut_tests::guarded::Against;
 use couplingnut_tests::layout::to_bytes;
-use couplingnut_tests::second::reader::{most_records, RECORD};
+use second::reader::{most_records, RECORD};
 
 /// A chip in any sound session, with samples and room for their records.
 fn any_reading(random: &mut Random, length: usize) -> Given {

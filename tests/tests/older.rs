@@ -14,8 +14,8 @@ mod stopped_run;
 
 use couplingnut_tests::chip::Chip;
 use couplingnut_tests::generate::older::maps::simple_older_map;
-use couplingnut_tests::second::older::{Older, Part};
-use couplingnut_tests::second::settings::Settings;
+use second::older::{Older, Part};
+use second::settings::Settings;
 
 /// The tops that documents 001 and 002 name.
 const AD9557: Older = Older { part: Part::Ad9557, top: 0x1FFF };

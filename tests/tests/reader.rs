@@ -9,11 +9,11 @@ use couplingnut_tests::generate::maps::{
 use couplingnut_tests::generate::random::Random;
 use couplingnut_tests::generate::sessions::{sound_session, unsound_sessions, USABLE};
 use couplingnut_tests::generate::traces::trace;
-use couplingnut_tests::second::reader::{most_records, RECORD};
-use couplingnut_tests::second::sender::Order;
-use couplingnut_tests::second::session::{Phase, Session, CSB, SCLK};
-use couplingnut_tests::second::settings::Settings;
-use couplingnut_tests::second::Answer;
+use second::reader::{most_records, RECORD};
+use second::sender::Order;
+use second::session::{Phase, Session, CSB, SCLK};
+use second::settings::Settings;
+use second::Answer;
 
 /// A chip after some frames, and a trace that goes on from there.
 fn chip_and_trace(random: &mut Random) -> (Chip, Vec<u8>) {

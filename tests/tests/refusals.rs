@@ -12,8 +12,8 @@ use couplingnut_tests::guarded::Against;
 use couplingnut_tests::layout::{
     to_bytes, SessionBytes, ARMED_AT, FLAGS, LEFT_AT, PHASE_AT, SESSION_SIZE, VERSION,
 };
-use couplingnut_tests::second::reader::{most_records, RECORD};
-use couplingnut_tests::second::session::Phase;
+use second::reader::{most_records, RECORD};
+use second::session::Phase;
 
 /// Calls that nothing refuses, with records, and then every set of reasons: 1, 2, 3,
 /// 4, 16, 5, 6.

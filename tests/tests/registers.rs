@@ -4,8 +4,8 @@
 use couplingnut_tests::chip::{sent, Chip};
 use couplingnut_tests::generate::maps::{set_entry, simple_map};
 use couplingnut_tests::generate::random::Random;
-use couplingnut_tests::second::sender::Order;
-use couplingnut_tests::second::settings::Settings;
+use second::sender::Order;
+use second::settings::Settings;
 
 /// A chip of 17 registers with this one at 0x0010.
 fn chip_with(entry: [u8; 3]) -> Chip {

@@ -18,11 +18,11 @@ use couplingnut_tests::generate::sessions::{every_piece, with_every_setting};
 use couplingnut_tests::guarded::Against;
 use couplingnut_tests::layout::to_bytes;
 use couplingnut_tests::library;
-use couplingnut_tests::second::older::Older;
-use couplingnut_tests::second::reader::{most_records, RECORD};
-use couplingnut_tests::second::sender::Order;
-use couplingnut_tests::second::session::{Phase, Session, CSB};
-use couplingnut_tests::second::Answer;
+use second::older::Older;
+use second::reader::{most_records, RECORD};
+use second::sender::Order;
+use second::session::{Phase, Session, CSB};
+use second::Answer;
 
 /// The record of the run below.
 const WRITTEN: &str = "W 000A 3C 3C 1 3C";

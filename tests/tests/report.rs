@@ -5,7 +5,7 @@ use std::io::{self, Read};
 
 use couplingnut_tests::generate;
 use couplingnut_tests::generate::random::Random;
-use couplingnut_tests::second::report::{report, report_to};
+use second::report::{report, report_to};
 
 /// An input that arrives in small portions and ends, or fails in the end.
 struct Portions<'a> {

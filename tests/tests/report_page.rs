@@ -13,9 +13,9 @@ use couplingnut_tests::generate::maps::{count_of, flagged_map_of, good_entries, 
 use couplingnut_tests::generate::random::Random;
 use couplingnut_tests::generate::traces::trace;
 use couplingnut_tests::json::Json;
-use couplingnut_tests::second::reader::WRITE;
-use couplingnut_tests::second::sender::Order;
-use couplingnut_tests::second::verdict::{causes, frames, Recording};
+use second::reader::WRITE;
+use second::sender::Order;
+use second::verdict::{causes, frames, Recording};
 
 const KINDS: [&str; 5] = ["blank", "read-only", "plain", "buffered", "control"];
 /// The kinds that keep a value which can be wanted.

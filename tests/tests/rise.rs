@@ -14,12 +14,12 @@ use couplingnut_tests::generate::sessions::{armed_pieces, every_piece, with_ever
 use couplingnut_tests::generate::traces::trace;
 use couplingnut_tests::guarded::Against;
 use couplingnut_tests::layout::{from_bytes, to_bytes, ARMED_AT};
-use couplingnut_tests::second::older::Older;
-use couplingnut_tests::second::reader::{most_records, READ, RECORD};
-use couplingnut_tests::second::sender::Order;
-use couplingnut_tests::second::session::{Phase, Session, CSB, SCLK};
-use couplingnut_tests::second::settings::Settings;
-use couplingnut_tests::second::Answer;
+use second::older::Older;
+use second::reader::{most_records, READ, RECORD};
+use second::sender::Order;
+use second::session::{Phase, Session, CSB, SCLK};
+use second::settings::Settings;
+use second::Answer;
 
 /// The registers from 0x0010 on: buffered with every bit, some and none writable,
 /// and each other kind between them.

@@ -5,9 +5,9 @@ use couplingnut_tests::both::send;
 use couplingnut_tests::chip::{sent, settings_of, Chip};
 use couplingnut_tests::generate::maps::good_map;
 use couplingnut_tests::generate::random::Random;
-use couplingnut_tests::second::sender::Order;
-use couplingnut_tests::second::session::Session;
-use couplingnut_tests::second::Answer;
+use second::sender::Order;
+use second::session::Session;
+use second::Answer;
 
 const GOOD: Order = Order { direction: 0, settings: 0, start: 0x0010, count: 1, data: &[0x3C] };
 

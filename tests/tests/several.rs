@@ -11,11 +11,11 @@ use couplingnut_tests::calls::{self, Call};
 use couplingnut_tests::chip::{line, sent};
 use couplingnut_tests::generate::maps::simple_map;
 use couplingnut_tests::layout::from_bytes;
-use couplingnut_tests::second::reader::{READ, RECORD as ALONE};
-use couplingnut_tests::second::sender::Order;
-use couplingnut_tests::second::session::{CSB, SCLK};
-use couplingnut_tests::second::several::CONTENDED;
 use couplingnut_tests::several::{of_chip, read_by_both, Given, Left, Sample};
+use second::reader::{READ, RECORD as ALONE};
+use second::sender::Order;
+use second::session::{CSB, SCLK};
+use second::several::CONTENDED;
 
 fn read(given: &Given) -> Left {
     read_by_both(given)

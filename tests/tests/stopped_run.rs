@@ -10,10 +10,10 @@ use couplingnut_tests::generate::orders::{any_write, chip_at_rest};
 use couplingnut_tests::generate::random::Random;
 use couplingnut_tests::layout::from_bytes;
 use couplingnut_tests::library;
-use couplingnut_tests::second::reader::RECORD;
-use couplingnut_tests::second::sender::Order;
-use couplingnut_tests::second::session::{Phase, CSB};
-use couplingnut_tests::second::Answer;
+use second::reader::RECORD;
+use second::sender::Order;
+use second::session::{Phase, CSB};
+use second::Answer;
 
 /// Who sends and reads the run.
 pub(crate) enum Side {

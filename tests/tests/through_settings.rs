@@ -10,10 +10,10 @@ use couplingnut_tests::generate::older::orders::{older_at_rest, older_write_thro
 use couplingnut_tests::generate::orders::{chip_at_rest, mirrored, write_through_settings};
 use couplingnut_tests::generate::random::Random;
 use couplingnut_tests::library;
-use couplingnut_tests::second::older::{Older, Part};
-use couplingnut_tests::second::sender::Order;
-use couplingnut_tests::second::session::CSB;
-use couplingnut_tests::second::settings::Settings;
+use second::older::{Older, Part};
+use second::sender::Order;
+use second::session::CSB;
+use second::settings::Settings;
 
 use crate::stopped_run::{assert_kept, before_the_raise, read_by_calls, Side};
 

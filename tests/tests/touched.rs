@@ -15,10 +15,10 @@ use couplingnut_tests::generate::random::Random;
 use couplingnut_tests::generate::traces::trace;
 use couplingnut_tests::generate::words::{any_words, some_words};
 use couplingnut_tests::guarded::Against;
-use couplingnut_tests::second::older::{Older, Part};
-use couplingnut_tests::second::reader::{most_records, RECORD, WRITE};
-use couplingnut_tests::second::sender::Order;
-use couplingnut_tests::second::session::{Session, CSB};
+use second::older::{Older, Part};
+use second::reader::{most_records, RECORD, WRITE};
+use second::sender::Order;
+use second::session::{Session, CSB};
 
 /// The registers from 0x0010 on: every kind, with all bits writable, some and none.
 const ENTRIES: [[u8; 3]; 6] = [

@@ -5,7 +5,7 @@ use std::fs::File;
 use std::io;
 use std::os::fd::AsFd;
 
-use couplingnut_tests::second::report::report_to;
+use second::report::report_to;
 
 fn main() -> io::Result<()> {
     let input = io::stdin().as_fd().try_clone_to_owned()?;

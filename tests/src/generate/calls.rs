@@ -12,9 +12,9 @@ use super::traces::{clocks, noise, trace};
 use super::words::{another_length, any_words};
 use crate::calls::{Call, Given, Left};
 use crate::layout::{from_bytes, to_bytes, SessionBytes, SESSION_SIZE};
-use crate::second::older::Older;
-use crate::second::reader::RECORD;
-use crate::second::rules::Rules;
+use second::older::Older;
+use second::reader::RECORD;
+use second::rules::Rules;
 
 /// The most samples that a call takes.
 pub const MOST_SAMPLES: usize = 65_536;

@@ -8,7 +8,7 @@ pub mod traces;
 
 use super::maps::count;
 use super::random::Random;
-use crate::second::older::{Older, Part};
+use second::older::{Older, Part};
 
 pub const PARTS: [Part; 2] = [Part::Ad9557, Part::Ad9508];
 

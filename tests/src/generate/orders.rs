@@ -4,9 +4,9 @@ use super::maps::good_map;
 use super::random::Random;
 use super::words::any_words;
 use crate::chip::{settings_of, Chip};
-use crate::second::sender::{send, Order};
-use crate::second::session::{Session, CSB, SCLK};
-use crate::second::settings::Settings;
+use second::sender::{send, Order};
+use second::session::{Session, CSB, SCLK};
+use second::settings::Settings;
 
 /// A chip at rest, its banks and words at will, its settings those of the order where an
 /// order can name them.

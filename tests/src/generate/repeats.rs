@@ -12,7 +12,7 @@ use super::sessions::sound_session;
 use super::words::any_words;
 use crate::calls::Given;
 use crate::layout::{from_bytes, to_bytes};
-use crate::second::session::{CSB, SCLK, SDIO, SDO};
+use second::session::{CSB, SCLK, SDIO, SDO};
 
 /// The lines that a repeated sample has as they were.
 const KEPT: u8 = CSB | SCLK;

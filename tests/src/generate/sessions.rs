@@ -1,8 +1,8 @@
 //! Sessions: sound ones of every kind, whether a trace leads to them or not.
 
 use super::random::Random;
-use crate::second::session::{Phase, Session, CSB, SCLK};
-use crate::second::settings::Settings;
+use second::session::{Phase, Session, CSB, SCLK};
+use second::settings::Settings;
 
 /// The settings that an instruction takes in use.
 pub const USABLE: [Settings; 4] =

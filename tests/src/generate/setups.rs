@@ -1,7 +1,7 @@
 //! Lists of orders for a whole setup (document 02, Ask 6), good and spoilt.
 
 use super::random::Random;
-use crate::second::sender::{send, Order};
+use second::sender::{send, Order};
 
 const SINGLE_INSTRUCTION: u64 = 4;
 

@@ -7,9 +7,9 @@ use super::random::Random;
 use super::sessions::sound_session;
 use super::traces::{blind_start, trace};
 use crate::layout::{from_bytes, to_bytes, ChipInC};
-use crate::second::session::{Phase, Session, CSB, SCLK, SDIO, SDO};
-use crate::second::several::{BankRange, MOST_CHIPS, RECORD};
 use crate::several::{bank_in, Given, Left, Sample};
+use second::session::{Phase, Session, CSB, SCLK, SDIO, SDO};
+use second::several::{BankRange, MOST_CHIPS, RECORD};
 
 const LINES: u8 = SCLK | SDIO | SDO;
 

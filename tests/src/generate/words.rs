@@ -1,7 +1,7 @@
 //! Words of touched registers (document 02, Ask 7).
 
 use super::random::Random;
-use crate::second::touched::words_for;
+use second::touched::words_for;
 
 /// The words of so many registers, bits at that number and beyond among those set.
 pub fn any_words(random: &mut Random, registers: usize) -> Vec<u64> {

@@ -1,8 +1,8 @@
 //! The calls of Ask 1: a set for each part, and one sender.
 
 use super::Lent;
-use crate::second::older::Older;
-use crate::second::sender::Order;
+use second::older::Older;
+use second::sender::Order;
 
 #[cfg(host_library)]
 pub use calls::{map_test, next_record, open, read, send};
@@ -11,7 +11,7 @@ pub use calls::{map_test, next_record, open, read, send};
 mod calls {
     use super::{Lent, Older, Order};
     use crate::layout::SessionBytes;
-    use crate::second::older::Part;
+    use second::older::Part;
 
     /// The calls of one part, by their names.
     macro_rules! calls_of {

@@ -7,9 +7,9 @@ use couplingnut_tests::generate::older::sessions::sound_older_session;
 use couplingnut_tests::generate::older::PARTS;
 use couplingnut_tests::generate::random::Random;
 use couplingnut_tests::generate::sessions::sound_session;
-use couplingnut_tests::second::older::{Older, Part};
-use couplingnut_tests::second::session::{Phase, Session, CSB};
-use couplingnut_tests::second::settings::Settings;
+use second::older::{Older, Part};
+use second::session::{Phase, Session, CSB};
+use second::settings::Settings;
 
 use super::{bytes, clocked, instruction, simple_chip, AD9508};
 

@@ -2,7 +2,7 @@
 //! stream, stall, top and address 0.
 
 use couplingnut_tests::chip::sent_older;
-use couplingnut_tests::second::sender::Order;
+use second::sender::Order;
 
 use super::{clocked, frame, simple_chip, AD9508, AD9557};
 

@@ -15,9 +15,9 @@ use couplingnut_tests::generate::traces::clocks;
 use couplingnut_tests::generate::words::any_words;
 use couplingnut_tests::guarded::Against;
 use couplingnut_tests::layout::{from_bytes, to_bytes};
-use couplingnut_tests::second::older::{Older, STREAMING};
-use couplingnut_tests::second::reader::{most_records, RECORD};
-use couplingnut_tests::second::session::{Phase, Session, CSB};
+use second::older::{Older, STREAMING};
+use second::reader::{most_records, RECORD};
+use second::session::{Phase, Session, CSB};
 
 /// The calls of a gate run, in lists.
 const CALLS: u64 = 200_000;

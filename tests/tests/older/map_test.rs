@@ -9,7 +9,7 @@ use couplingnut_tests::generate::older::maps::{
 };
 use couplingnut_tests::generate::older::{another_top, any_older, some_olders, PARTS};
 use couplingnut_tests::generate::random::Random;
-use couplingnut_tests::second::older::{Older, Part};
+use second::older::{Older, Part};
 
 use super::AD9508;
 

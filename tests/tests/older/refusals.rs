@@ -13,9 +13,9 @@ use couplingnut_tests::generate::random::Random;
 use couplingnut_tests::generate::words::any_words;
 use couplingnut_tests::guarded::Against;
 use couplingnut_tests::layout::{to_bytes, FLAGS, LEFT_AT, PHASE_AT, SESSION_SIZE, VERSION};
-use couplingnut_tests::second::older::Older;
-use couplingnut_tests::second::reader::{most_records, RECORD};
-use couplingnut_tests::second::session::Session;
+use second::older::Older;
+use second::reader::{most_records, RECORD};
+use second::session::Session;
 
 /// A call that is done and has a record.
 fn good_call(random: &mut Random) -> Given {

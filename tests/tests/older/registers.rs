@@ -6,9 +6,9 @@ use couplingnut_tests::generate::older::maps::{good_older_map, simple_older_map}
 use couplingnut_tests::generate::older::{any_older, PARTS};
 use couplingnut_tests::generate::random::Random;
 use couplingnut_tests::generate::sessions::{every_setting, USABLE};
-use couplingnut_tests::second::older::{Older, Part};
-use couplingnut_tests::second::session::Session;
-use couplingnut_tests::second::settings::Settings;
+use second::older::{Older, Part};
+use second::session::Session;
+use second::settings::Settings;
 
 use super::{simple_chip, AD9508, AD9557};
 

@@ -5,9 +5,9 @@ use couplingnut_tests::chip::Chip;
 use couplingnut_tests::generate::older::{some_olders, PARTS};
 use couplingnut_tests::generate::random::Random;
 use couplingnut_tests::generate::sessions::{every_setting, USABLE};
-use couplingnut_tests::second::older::Older;
-use couplingnut_tests::second::session::{Phase, Session, CSB, SCLK};
-use couplingnut_tests::second::settings::Settings;
+use second::older::Older;
+use second::session::{Phase, Session, CSB, SCLK};
+use second::settings::Settings;
 
 use super::{
     addresses, bytes, clocked, instruction, number_bits, simple_chip, AD9508, AD9557, STREAMING,

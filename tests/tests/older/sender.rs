@@ -9,9 +9,9 @@ use couplingnut_tests::generate::older::orders::{older_addresses, older_at_rest}
 use couplingnut_tests::generate::older::{another_top, any_older, TOPS};
 use couplingnut_tests::generate::random::Random;
 use couplingnut_tests::library;
-use couplingnut_tests::second::older::Older;
-use couplingnut_tests::second::sender::Order;
-use couplingnut_tests::second::settings::Settings;
+use second::older::Older;
+use second::sender::Order;
+use second::settings::Settings;
 
 use super::{bytes, frame, instruction, STREAMING};
 

@@ -9,12 +9,12 @@ use couplingnut_tests::generate::older::sessions::{
 use couplingnut_tests::generate::older::{any_older, some_olders, PARTS};
 use couplingnut_tests::generate::random::Random;
 use couplingnut_tests::generate::sessions::with_every_setting;
-use couplingnut_tests::second::older::Older;
-use couplingnut_tests::second::reader::{most_records, RECORD};
-use couplingnut_tests::second::rules::Rules;
-use couplingnut_tests::second::session::{Phase, Session, CSB, SCLK};
-use couplingnut_tests::second::settings::Settings;
-use couplingnut_tests::second::Answer;
+use second::older::Older;
+use second::reader::{most_records, RECORD};
+use second::rules::Rules;
+use second::session::{Phase, Session, CSB, SCLK};
+use second::settings::Settings;
+use second::Answer;
 
 use super::{simple_chip, AD9508};
 

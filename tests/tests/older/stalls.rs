@@ -4,9 +4,9 @@ use couplingnut_tests::chip::Chip;
 use couplingnut_tests::generate::older::maps::good_older_map;
 use couplingnut_tests::generate::older::{any_older, PARTS};
 use couplingnut_tests::generate::random::Random;
-use couplingnut_tests::second::older::Older;
-use couplingnut_tests::second::session::{Phase, Session, CSB, SCLK};
-use couplingnut_tests::second::settings::Settings;
+use second::older::Older;
+use second::session::{Phase, Session, CSB, SCLK};
+use second::settings::Settings;
 
 use super::{bytes, clocked, instruction, simple_chip, AD9508, AD9557};
 

@@ -5,10 +5,10 @@ use couplingnut_tests::book::{book, kept};
 use couplingnut_tests::chip::{sent_older, Chip};
 use couplingnut_tests::generate::older::orders::{any_older_write, older_addresses, older_at_rest};
 use couplingnut_tests::generate::random::Random;
-use couplingnut_tests::second::reader::RECORD;
-use couplingnut_tests::second::sender::Order;
-use couplingnut_tests::second::session::{Phase, Session, CSB};
-use couplingnut_tests::second::Answer;
+use second::reader::RECORD;
+use second::sender::Order;
+use second::session::{Phase, Session, CSB};
+use second::Answer;
 
 /// A chip at rest and a write for it.
 fn chip_and_write(random: &mut Random) -> (Chip, u64, u64, Vec<u8>) {

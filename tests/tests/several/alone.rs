@@ -7,8 +7,8 @@ use couplingnut_tests::generate::random::Random;
 use couplingnut_tests::generate::several::{any_call, any_list, any_wire, present, spoil, Wrong};
 use couplingnut_tests::guarded::Against;
 use couplingnut_tests::library;
-use couplingnut_tests::second::reader::{READ, RECORD as ALONE};
 use couplingnut_tests::several::{Comparison, Given, Left, Sample};
+use second::reader::{READ, RECORD as ALONE};
 
 use super::{assert_as_alone, assert_outside_stays, gone_on, with_wire};
 

@@ -6,8 +6,8 @@ use couplingnut_tests::generate::maps::{set_entry, simple_map, with_flags};
 use couplingnut_tests::generate::random::Random;
 use couplingnut_tests::generate::several::any_call;
 use couplingnut_tests::layout::to_bytes;
-use couplingnut_tests::second::session::{Phase, Session, SCLK};
 use couplingnut_tests::several::{Given, Left};
+use second::session::{Phase, Session, SCLK};
 
 use super::{
     assert_as_alone, assert_outside_stays, done, edges, gone_on, lines, opened, read, read_of,

@@ -8,8 +8,8 @@ use couplingnut_tests::generate::sessions::{every_piece, with_every_setting};
 use couplingnut_tests::generate::several::{any_list, any_wire, clocks, may_be_contended, Chain};
 use couplingnut_tests::layout::to_bytes;
 use couplingnut_tests::library;
-use couplingnut_tests::second::session::{Phase, Session};
 use couplingnut_tests::several::{Comparison, Given};
+use second::session::{Phase, Session};
 
 use super::with_wire;
 

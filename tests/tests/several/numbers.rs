@@ -6,9 +6,9 @@ use couplingnut_tests::generate::random::Random;
 use couplingnut_tests::generate::sessions::{every_piece, unsound_sessions};
 use couplingnut_tests::generate::several::{any_call, may_be_contended, spoil, Wrong};
 use couplingnut_tests::layout::to_bytes;
-use couplingnut_tests::second::session::Phase;
-use couplingnut_tests::second::several::{BankRange, RECORD};
 use couplingnut_tests::several::Given;
+use second::session::Phase;
+use second::several::{BankRange, RECORD};
 
 use super::{opened, read, spoken_to, write_of};
 

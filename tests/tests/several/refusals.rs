@@ -10,9 +10,9 @@ use couplingnut_tests::layout::{
     to_bytes, ARMED_AT, FLAGS, LEFT_AT, PHASE_AT, SESSION_SIZE, VERSION,
 };
 use couplingnut_tests::library;
-use couplingnut_tests::second::session::{Phase, Session};
-use couplingnut_tests::second::several::RECORD;
 use couplingnut_tests::several::{Comparison, Given, Sample};
+use second::session::{Phase, Session};
+use second::several::RECORD;
 
 use super::{opened, with_wire};
 

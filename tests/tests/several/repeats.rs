@@ -9,9 +9,9 @@ use couplingnut_tests::generate::sessions::{every_piece, with_every_setting};
 use couplingnut_tests::generate::several::{any_call, may_be_contended, noise};
 use couplingnut_tests::layout::{from_bytes, to_bytes};
 use couplingnut_tests::library;
-use couplingnut_tests::second::session::{CSB, SCLK};
-use couplingnut_tests::second::several::RECORD;
 use couplingnut_tests::several::{Comparison, Given, Left, Sample};
+use second::session::{CSB, SCLK};
+use second::several::RECORD;
 
 use super::{gone_on, opened, with_wire};
 

@@ -2,7 +2,7 @@
 
 use crate::generate::maps::{in_any_version, map_of};
 use crate::generate::random::Random;
-use crate::second::older::{Older, Part};
+use second::older::{Older, Part};
 
 /// Where the control entries of a part are.
 pub fn controls_of(part: Part) -> &'static [usize] {

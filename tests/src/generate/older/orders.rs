@@ -5,10 +5,10 @@ use super::maps::good_older_map;
 use crate::chip::Chip;
 use crate::generate::random::Random;
 use crate::generate::words::any_words;
-use crate::second::older::Older;
-use crate::second::sender::Order;
-use crate::second::session::{Session, CSB, SCLK};
-use crate::second::settings::Settings;
+use second::older::Older;
+use second::sender::Order;
+use second::session::{Session, CSB, SCLK};
+use second::settings::Settings;
 
 /// The settings that an order can't name.
 const OTHERS: [Settings; 4] = [

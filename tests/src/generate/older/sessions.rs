@@ -2,8 +2,8 @@
 
 use crate::generate::random::Random;
 use crate::generate::sessions::{any_settings, any_usable, USABLE};
-use crate::second::older::STREAMING;
-use crate::second::session::{Phase, Session, CSB, SCLK};
+use second::older::STREAMING;
+use second::session::{Phase, Session, CSB, SCLK};
 
 /// A sound session of any kind, for this top.
 pub fn sound_older_session(random: &mut Random, top: u64) -> Session {

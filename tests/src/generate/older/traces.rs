@@ -3,7 +3,7 @@
 
 use crate::generate::random::Random;
 use crate::generate::traces::{any_glitch, noise, resampled, Sampling};
-use crate::second::older::Older;
+use second::older::Older;
 
 const CSB: u8 = 1 << 0;
 const SCLK: u8 = 1 << 1;

@@ -2,6 +2,11 @@
 //! samples, nothing allocated while reading. Where a request of document 02
 //! changed a rule, it has the rule as it now is.
 //!
+//! It is written from the documents alone, without a look at the definitions that
+//! the verified programs are proved against: where the two agree on thousands of
+//! inputs, a slip in reading a document would have to have been made twice. Tests
+//! and benchmark both set the proved side against it.
+//!
 //! | file | section of document 01 |
 //! |---|---|
 //! | `map` | The map |
@@ -24,6 +29,8 @@
 //!
 //! The call for the next record, in `reader`, is the library's own: document 01
 //! does not have it.
+
+#![deny(warnings, unsafe_code)]
 
 pub mod converter;
 pub mod frames;
