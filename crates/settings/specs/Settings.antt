@@ -11,9 +11,25 @@ use Rattle.chip.specs.Chip.{partReadsBuffer, transferPlace}
 use Rattle.settings.specs.declared.Settings.{Settings}
 use Rattle.settings.specs.declared.InUse.{InUse}
 
+-- Document 01, "Registers and session": opening leaves all settings clear.
+abbrev pub allClear : Settings
+allClear = record { lsb = false; ascending = false; sdo = false; single = false; readback = false }
+
+-- settings with others for the first three
+abbrev pub withFirstThree : Settings → Bool → Bool → Bool → Settings
+withFirstThree t lsb ascending sdo = record { lsb = lsb; ascending = ascending; sdo = sdo; single = t .single; readback = t .readback }
+
+-- and with others for the last two
+abbrev pub withLastTwo : Settings → Bool → Bool → Settings
+withLastTwo t single readback = record { lsb = t .lsb; ascending = t .ascending; sdo = t .sdo; single = single; readback = readback }
+
 -- Document 01, "Registers and session": the settings in use are the first four settings.
 abbrev pub inUseOf : Settings → InUse
 inUseOf t = record { lsb = t .lsb; ascending = t .ascending; sdo = t .sdo; single = t .single }
+
+-- at rest none is in use
+abbrev pub noneInUse : InUse
+noneInUse = inUseOf allClear
 
 -- Document 02, Ask 1: of the settings in use, those that count. On an older chip the bit order alone does: highest bit first goes down
 -- in address, lowest first up; reads come from SDIO, and there is no single instruction.
@@ -32,23 +48,11 @@ resets v = bitAt v 7
 
 -- three settings are taken from such a byte; a soft reset clears the other two
 abbrev pub configured : Settings → ℕ → Settings
-configured t v = record {
-  lsb = bitAt v 6;
-  ascending = bitAt v 5;
-  sdo = bitAt v 4;
-  single = cond (resets v) false (t .single);
-  readback = cond (resets v) false (t .readback);
-}
+configured t v = withFirstThree (cond (resets v) allClear t) (bitAt v 6) (bitAt v 5) (bitAt v 4)
 
 -- 0x0001, without the slow setting (document 02, Ask 9): bit 7 single instruction, bit 5 buffer readback; the other bits are ignored.
 abbrev pub configuredB : Settings → ℕ → Settings
-configuredB t v = record {
-  lsb = t .lsb;
-  ascending = t .ascending;
-  sdo = t .sdo;
-  single = bitAt v 7;
-  readback = bitAt v 5;
-}
+configuredB t v = withLastTwo t (bitAt v 7) (bitAt v 5)
 
 -- the settings of a newer chip after v is written to an address
 unfoldable pub newerAfter : Settings → ℕ → ℕ → Settings
@@ -59,23 +63,11 @@ newerAfter t address v =
 
 -- Document 02, Ask 1: 0x0000 of an older chip. Bit 6 sets the bit order; the other bits are ignored.
 abbrev pub ordered : Settings → ℕ → Settings
-ordered t v = record {
-  lsb = bitAt v 6;
-  ascending = t .ascending;
-  sdo = t .sdo;
-  single = t .single;
-  readback = t .readback;
-}
+ordered t v = withFirstThree t (bitAt v 6) (t .ascending) (t .sdo)
 
 -- 0x0004 of the AD9557: bit 0 set reads the buffer stage; the other bits are ignored.
 abbrev pub staged : Settings → ℕ → Settings
-staged t v = record {
-  lsb = t .lsb;
-  ascending = t .ascending;
-  sdo = t .sdo;
-  single = t .single;
-  readback = bitAt v 0;
-}
+staged t v = withLastTwo t (t .single) (bitAt v 0)
 
 -- the settings of an older part after v is written to an address
 unfoldable pub olderAfter : Part → Settings → ℕ → ℕ → Settings

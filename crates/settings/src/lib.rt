@@ -2,7 +2,7 @@
 // chip, and which way they send the address. What a write to a control register makes of them, and what it reads as, is in control.rt.
 ghost use mathlib.Core.Path.{_≡_};
 ghost use Prim.Native.Nat.{_<_};
-ghost use Rattle.settings.specs.Settings.{inUseOf, counting, nextAddress};
+ghost use Rattle.settings.specs.Settings.{allClear, noneInUse, inUseOf, counting, nextAddress};
 
 mod control;
 
@@ -24,6 +24,26 @@ pub struct InUse {
     pub ascending: bool,
     pub sdo: bool,
     pub single: bool,
+}
+
+// All settings clear, as opening leaves them.
+pub fn all_clear() -> Settings
+    ensures { λ r. ⌜ r ≡ allClear ⌝ }
+{
+    Settings {
+        lsb: false,
+        ascending: false,
+        sdo: false,
+        single: false,
+        readback: false,
+    }
+}
+
+// The settings in use at rest: none.
+pub fn none_in_use() -> InUse
+    ensures { λ r. ⌜ r ≡ noneInUse ⌝ }
+{
+    all_clear().in_use()
 }
 
 impl Settings {

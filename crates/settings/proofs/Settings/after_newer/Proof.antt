@@ -1,44 +1,28 @@
 -- `Settings::after_newer` meets its contract: each branch sets the fields that the definition names for its address.
 use Prim.Native.Nat.{ℕ}
-use mathlib.Core.Bool.{Bool, false, cond}
+use mathlib.Core.Bool.{Bool, cond}
 use mathlib.Core.Path.{_≡_, refl, sym, _∙_}
 use borrow.Author.Tests.{eq-eqb, ne-eqb, not-true, not-false}
 use Rattle.bits.specs.Bits.{bitAt}
 use Rattle.bits.proofs.Cases.{yes, no}
 use Rattle.settings.specs.declared.Settings.{Settings}
-use Rattle.settings.specs.Settings.{resets, configured, configuredB, newerAfter}
+use Rattle.settings.specs.Settings.{allClear, withFirstThree, withLastTwo, resets, configured, configuredB, newerAfter}
 use borrow.Author.Needs.{needs}
 use Rattle.settings.proofs.Settings.after_newer.Statement.{statement}
 use Rattle.settings.proofs.Settings.after_newer.Tie as tie
 
 -- what 0x0000 makes of the settings, by the bits of the byte
 abbrev configuredBy : Settings → Bool → Bool → Bool → Bool → Settings
-configuredBy t lsb ascending sdo reset = record {
-  lsb = lsb;
-  ascending = ascending;
-  sdo = sdo;
-  single = cond reset false (t .single);
-  readback = cond reset false (t .readback);
-}
+configuredBy t lsb ascending sdo reset = withFirstThree (cond reset allClear t) lsb ascending sdo
 
 configured-by : (t : Settings) (v : ℕ) {lsb ascending sdo reset : Bool}
     → lsb ≡ bitAt v 6 → ascending ≡ bitAt v 5 → sdo ≡ bitAt v 4 → reset ≡ resets v
     → configuredBy t lsb ascending sdo reset ≡ configured t v
 configured-by t v e f g h = λ i. configuredBy t (e i) (f i) (g i) (h i)
 
--- what 0x0001 makes of the settings, by the bits of the byte
-abbrev configuredBBy : Settings → Bool → Bool → Settings
-configuredBBy t single readback = record {
-  lsb = t .lsb;
-  ascending = t .ascending;
-  sdo = t .sdo;
-  single = single;
-  readback = readback;
-}
-
 configured-b-by : (t : Settings) (v : ℕ) {single readback : Bool}
-    → single ≡ bitAt v 7 → readback ≡ bitAt v 5 → configuredBBy t single readback ≡ configuredB t v
-configured-b-by t v e f = λ i. configuredBBy t (e i) (f i)
+    → single ≡ bitAt v 7 → readback ≡ bitAt v 5 → withLastTwo t single readback ≡ configuredB t v
+configured-b-by t v e f = λ i. withLastTwo t (e i) (f i)
 
 is-mirror-requires : tie.Need-is-mirror-requires
 is-mirror-requires c κs = search needs
