@@ -16,12 +16,12 @@ use Rattle.chip.specs.declared.Chip.{Chip}
 use Rattle.chip.specs.declared.Chip.the-variants.{Newer, Older}
 use Rattle.settings.specs.declared.Settings.{Settings}
 use Rattle.settings.specs.declared.InUse.{InUse}
-use Rattle.settings.specs.Settings.{inUseOf, counting, nextAddress}
+use Rattle.settings.specs.Settings.{inUseOf, noneInUse, counting, nextAddress}
 use Rattle.session.specs.declared.Phase.the-variants.{Rest, Instruction, Data}
 use Rattle.session.specs.declared.Port.{Port}
 use Rattle.session.specs.declared.Event.{Event}
 use Rattle.session.specs.declared.Event.the-variants.{Whole}
-use Rattle.session.specs.State.{noneInUse, instructing, starting, inData}
+use Rattle.session.specs.State.{instructing, starting, inData}
 use Rattle.session.specs.Step.{runsOut, stepOf}
 use Rattle.session.proofs.Form.{leftAfter}
 use Rattle.order.specs.Order.{RunByte, runFrom}

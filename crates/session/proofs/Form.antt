@@ -18,23 +18,12 @@ use Rattle.settings.proofs.Laws.{next-lt}
 use Rattle.session.specs.declared.Phase.{Phase}
 use Rattle.session.specs.declared.Phase.the-variants.{Rest, Instruction, Data}
 use Rattle.session.specs.declared.Port.{Port}
-use Rattle.session.specs.State.{noneInUse, resting, instructing, inData, passing, isCounted, mayStall, lengthGood, zeroTests, soundTests, soundPort}
+use Rattle.session.specs.State.{atLevels, withPhase, withBits, atAddress, withSettings, withLevels, idle, resting, instructing, inData, passing, isCounted, mayStall, lengthGood, zeroTests, soundTests, soundPort}
 use Rattle.session.specs.Step.{csbOf, sclkOf, sdioOf, takesBit, valueWith, entered, withInstructionBit, usedOn, runEnds, settingsOnByte, afterByte, withDataBit, dataLine, stepOf}
 
 -- before a data byte of a counted run, with the select high
 abbrev pub stalled : Bool → ℕ → Bool → ℕ → Settings → InUse → Port
-stalled sclk address read left t u = record {
-  csb = true;
-  sclk = sclk;
-  phase = Data;
-  bits = 0;
-  value = 0;
-  address = address;
-  read = read;
-  left = left;
-  settings = t;
-  used = u;
-}
+stalled sclk address read left t u = atLevels (inData sclk 0 0 address read left t u) true sclk
 
 pub data Form (c : Chip) : Port → Type 0 where
   rests : (sclk : Bool) (t : Settings) → Form c (resting sclk t)
@@ -59,27 +48,22 @@ form-sound (has-data k n v a r l t u h g f d) = simp (le-leb n 7 (omega arith), 
 form-sound (stalls k a r l t u f e d) = simp (le-leb a 0x7FFF (omega arith), e, d)
 form-sound (passes k t e) = rw e refl
 
--- where all but the levels, the phase and the settings is zero
-zeros : (s : Port) → AllTrue (zeroTests s) → {csb : Bool} {p : Phase} → s .csb ≡ csb → s .phase ≡ p
-    → s ≡ record { csb = csb; sclk = s .sclk; phase = p; bits = 0; value = 0; address = 0; read = false; left = 0; settings = s .settings; used = noneInUse }
+-- where all but the levels and the settings is zero
+zeros : (s : Port) → AllTrue (zeroTests s) → {csb : Bool} → s .csb ≡ csb → s .phase ≡ Rest → s ≡ idle csb (s .sclk) (s .settings)
 zeros s q b e =
-    λ i. record {
-      csb = b i;
-      sclk = s .sclk;
-      phase = e i;
-      bits = eqb-true (s .bits) 0 (q .0) i;
-      value = eqb-true (s .value) 0 (q .1 .0) i;
-      address = eqb-true (s .address) 0 (q .1 .1 .0) i;
-      read = not-true (s .read) (q .1 .1 .1 .0) i;
-      left = eqb-true (s .left) 0 (q .1 .1 .1 .1 .0) i;
-      settings = s .settings;
-      used = record {
-        lsb = not-true (s .used .lsb) (q .1 .1 .1 .1 .1 .0) i;
-        ascending = not-true (s .used .ascending) (q .1 .1 .1 .1 .1 .1 .0) i;
-        sdo = not-true (s .used .sdo) (q .1 .1 .1 .1 .1 .1 .1 .0) i;
-        single = not-true (s .used .single) (q .1 .1 .1 .1 .1 .1 .1 .1 .0) i;
-      };
-    }
+    let r = q .1 .1 .1 in
+    let u = r .1 .1 in
+    λ i. withSettings
+    (atAddress
+    (withBits (withPhase (atLevels s (b i) (s .sclk)) (e i)) (eqb-true (s .bits) 0 (q .0) i) (eqb-true (s .value) 0 (q .1 .0) i))
+    (eqb-true (s .address) 0 (q .1 .1 .0) i) (not-true (s .read) (r .0) i) (eqb-true (s .left) 0 (r .1 .0) i))
+    (s .settings)
+    (record {
+      lsb = not-true (s .used .lsb) (u .0) i;
+      ascending = not-true (s .used .ascending) (u .1 .0) i;
+      sdo = not-true (s .used .sdo) (u .1 .1 .0) i;
+      single = not-true (s .used .single) (u .1 .1 .1 .0) i;
+    })
 
 -- at rest all but SCLK and the settings is fixed
 pub rest-form : (c : Chip) (s : Port) → soundPort c s ≡ true → s .phase ≡ Rest → s .csb ≡ true → s ≡ resting (s .sclk) (s .settings)
@@ -97,18 +81,8 @@ sound-form c s h = go (s .phase) refl
     go Instruction e =
         let q = tests c s h Instruction e in
         let same : s ≡ instructing (s .sclk) (s .bits) (s .value) (s .settings) (s .used) =
-        λ i. record {
-          csb = not-true (s .csb) (q .0) i;
-          sclk = s .sclk;
-          phase = e i;
-          bits = s .bits;
-          value = s .value;
-          address = eqb-true (s .address) 0 (q .1 .1 .1 .0) i;
-          read = not-true (s .read) (q .1 .1 .1 .1 .0) i;
-          left = eqb-true (s .left) 0 (q .1 .1 .1 .1 .1 .0) i;
-          settings = s .settings;
-          used = s .used;
-        } in
+        λ i. atAddress (withPhase (atLevels s (not-true (s .csb) (q .0) i) (s .sclk)) (e i))
+        (eqb-true (s .address) 0 (q .1 .1 .1 .0) i) (not-true (s .read) (q .1 .1 .1 .1 .0) i) (eqb-true (s .left) 0 (q .1 .1 .1 .1 .1 .0) i) in
         subst (Form c) (sym same)
         (instructs (s .sclk) (s .bits) (s .value) (s .settings) (s .used)
         (omega (arith, leb-true (s .bits) 15 (q .1 .0))) (ltb-true (s .value) (2 ^ s .bits) (q .1 .1 .0)))
@@ -122,36 +96,14 @@ sound-form c s h = go (s .phase) refl
             → lengthGood c (s .left) (s .address) ≡ true → Form c s
         by-csb false g o few small near d =
             let same : s ≡ inData (s .sclk) (s .bits) (s .value) (s .address) (s .read) (s .left) (s .settings) (s .used) =
-            λ i. record {
-              csb = g i;
-              sclk = s .sclk;
-              phase = e i;
-              bits = s .bits;
-              value = s .value;
-              address = s .address;
-              read = s .read;
-              left = s .left;
-              settings = s .settings;
-              used = s .used;
-            } in
+            λ i. withPhase (atLevels s (g i) (s .sclk)) (e i) in
             subst (Form c) (sym same)
             (has-data (s .sclk) (s .bits) (s .value) (s .address) (s .read) (s .left) (s .settings) (s .used) few small near d)
         by-csb true g o few small near d =
             let none = eqb-true (s .bits) 0 (and-right (isCounted (s .left)) (eqb (s .bits) 0) o) in
             let zero : s .value ≡ 0 = omega (arith, rw none at small) in
             let same : s ≡ stalled (s .sclk) (s .address) (s .read) (s .left) (s .settings) (s .used) =
-            λ i. record {
-              csb = g i;
-              sclk = s .sclk;
-              phase = e i;
-              bits = none i;
-              value = zero i;
-              address = s .address;
-              read = s .read;
-              left = s .left;
-              settings = s .settings;
-              used = s .used;
-            } in
+            λ i. withBits (withPhase (atLevels s (g i) (s .sclk)) (e i)) (none i) (zero i) in
             subst (Form c) (sym same)
             (stalls (s .sclk) (s .address) (s .read) (s .left) (s .settings) (s .used) near (and-left (isCounted (s .left)) (eqb (s .bits) 0) o) d)
 
@@ -245,7 +197,7 @@ form-step {c} {s} (instructs k n v t u h g) x =
     each (Form c) (takesBit s x) (λ e. form-instruction c s (sdioOf x) h g)
     (λ e. by-csb (csbOf x) refl)
   where
-    by-csb : (b : Bool) → csbOf x ≡ b → Form c (cond (csbOf x && true) (resting (sclkOf x) t) (record { csb = csbOf x; sclk = sclkOf x; phase = Instruction; bits = n; value = v; address = 0; read = false; left = 0; settings = t; used = u }))
+    by-csb : (b : Bool) → csbOf x ≡ b → Form c (cond (csbOf x && true) (resting (sclkOf x) t) (withLevels (instructing k n v t u) x))
     by-csb true e = rw e (rests (sclkOf x) t)
     by-csb false e = rw e (instructs (sclkOf x) n v t u h g)
 form-step {c} {s} (has-data k n v a r l t u h g f d) x =
@@ -254,7 +206,7 @@ form-step {c} {s} (has-data k n v a r l t u h g f d) x =
   where
     by-csb : (b o : Bool) → csbOf x ≡ b → mayStall (inData k n v a r l t u) ≡ o
         → Form c (cond (csbOf x && not (mayStall (inData k n v a r l t u))) (resting (sclkOf x) t)
-        (record { csb = csbOf x; sclk = sclkOf x; phase = Data; bits = n; value = v; address = a; read = r; left = l; settings = t; used = u }))
+        (withLevels (inData k n v a r l t u) x))
     by-csb true true e o =
         let z = eqb-true n 0 (and-right (isCounted l) (eqb n 0) o) in
         let w : v ≡ 0 = omega (arith, rw z at g) in

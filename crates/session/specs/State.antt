@@ -1,5 +1,5 @@
 -- Document 01, "Registers and session": the session, which is a port and whether it is armed (document 02, Ask 4), and which are sound;
--- document 02, Ask 1: what the older chips add. Every port that a definition makes is made by one of the builders here.
+-- document 02, Ask 1: what the older chips add. Every port is made by `fresh` and the five functions after it: a new field changes these.
 use Prim.Native.Nat.{ℕ, _^_, _<_}
 use mathlib.Core.Bool.{Bool, true, false, not, _&&_, _||_}
 use mathlib.Core.List.{List, [], _∷_}
@@ -11,29 +11,109 @@ use Rattle.chip.specs.declared.Chip.the-variants.{Newer, Older}
 use Rattle.chip.specs.Chip.{isNewer}
 use Rattle.settings.specs.declared.Settings.{Settings}
 use Rattle.settings.specs.declared.InUse.{InUse}
-use Rattle.settings.specs.Settings.{inUseOf}
+use Rattle.settings.specs.Settings.{inUseOf, noneInUse}
 use Rattle.session.specs.declared.Phase.{Phase}
 use Rattle.session.specs.declared.Phase.the-variants.{Rest, Instruction, Data}
 use Rattle.session.specs.declared.Port.{Port}
 use Rattle.session.specs.declared.Session.{Session}
 
-abbrev pub noneInUse : InUse
-noneInUse = record { lsb = false; ascending = false; sdo = false; single = false }
-
--- the zeros of rest, with the last levels
-abbrev pub idle : Bool → Bool → Settings → Port
-idle csb sclk t = record {
+-- in a phase with the last levels and the settings: no bit taken, address and direction zero, no bytes left
+abbrev pub fresh : Bool → Bool → Phase → Settings → InUse → Port
+fresh csb sclk p t u = record {
   csb = csb;
   sclk = sclk;
-  phase = Rest;
+  phase = p;
   bits = 0;
   value = 0;
   address = 0;
   read = false;
   settings = t;
-  used = noneInUse;
+  used = u;
   left = 0;
 }
+
+-- with other last levels
+abbrev pub atLevels : Port → Bool → Bool → Port
+atLevels s csb sclk = record {
+  csb = csb;
+  sclk = sclk;
+  phase = s .phase;
+  bits = s .bits;
+  value = s .value;
+  address = s .address;
+  read = s .read;
+  settings = s .settings;
+  used = s .used;
+  left = s .left;
+}
+
+-- in another phase
+abbrev pub withPhase : Port → Phase → Port
+withPhase s p = record {
+  csb = s .csb;
+  sclk = s .sclk;
+  phase = p;
+  bits = s .bits;
+  value = s .value;
+  address = s .address;
+  read = s .read;
+  settings = s .settings;
+  used = s .used;
+  left = s .left;
+}
+
+-- with some bits of a piece taken
+abbrev pub withBits : Port → ℕ → ℕ → Port
+withBits s bits value = record {
+  csb = s .csb;
+  sclk = s .sclk;
+  phase = s .phase;
+  bits = bits;
+  value = value;
+  address = s .address;
+  read = s .read;
+  settings = s .settings;
+  used = s .used;
+  left = s .left;
+}
+
+-- at an address, in a direction, with so many bytes left of a run that is counted
+abbrev pub atAddress : Port → ℕ → Bool → ℕ → Port
+atAddress s address read left = record {
+  csb = s .csb;
+  sclk = s .sclk;
+  phase = s .phase;
+  bits = s .bits;
+  value = s .value;
+  address = address;
+  read = read;
+  settings = s .settings;
+  used = s .used;
+  left = left;
+}
+
+-- with other settings, and others in use
+abbrev pub withSettings : Port → Settings → InUse → Port
+withSettings s t u = record {
+  csb = s .csb;
+  sclk = s .sclk;
+  phase = s .phase;
+  bits = s .bits;
+  value = s .value;
+  address = s .address;
+  read = s .read;
+  settings = t;
+  used = u;
+  left = s .left;
+}
+
+-- only the last levels change, to those of a sample
+abbrev pub withLevels : Port → ℕ → Port
+withLevels s x = atLevels s (bitAt x 0) (bitAt x 1)
+
+-- the zeros of rest, with the last levels
+abbrev pub idle : Bool → Bool → Settings → Port
+idle csb sclk t = fresh csb sclk Rest t noneInUse
 
 -- at rest: CSB is high
 abbrev pub resting : Bool → Settings → Port
@@ -45,52 +125,15 @@ passing sclk t = idle false sclk t
 
 -- in an instruction, with some of its bits taken
 abbrev pub instructing : Bool → ℕ → ℕ → Settings → InUse → Port
-instructing sclk bits value t u = record {
-  csb = false;
-  sclk = sclk;
-  phase = Instruction;
-  bits = bits;
-  value = value;
-  address = 0;
-  read = false;
-  settings = t;
-  used = u;
-  left = 0;
-}
+instructing sclk bits value t u = withBits (fresh false sclk Instruction t u) bits value
 
 -- an instruction starts, and the settings in use are taken from the settings
 abbrev pub starting : Bool → Settings → Port
-starting sclk t = instructing sclk 0 0 t (inUseOf t)
+starting sclk t = fresh false sclk Instruction t (inUseOf t)
 
--- in the data at an address, with some bits of a byte taken and so many bytes left of a run that is counted
+-- in the data at an address, with some bits of a byte taken
 abbrev pub inData : Bool → ℕ → ℕ → ℕ → Bool → ℕ → Settings → InUse → Port
-inData sclk bits value address read left t u = record {
-  csb = false;
-  sclk = sclk;
-  phase = Data;
-  bits = bits;
-  value = value;
-  address = address;
-  read = read;
-  settings = t;
-  used = u;
-  left = left;
-}
-
--- only the last levels change
-abbrev pub withLevels : Port → ℕ → Port
-withLevels s x = record {
-  csb = bitAt x 0;
-  sclk = bitAt x 1;
-  phase = s .phase;
-  bits = s .bits;
-  value = s .value;
-  address = s .address;
-  read = s .read;
-  settings = s .settings;
-  used = s .used;
-  left = s .left;
-}
+inData sclk bits value address read left t u = atAddress (withBits (fresh false sclk Data t u) bits value) address read left
 
 -- Ask 1: 1 to 3 bytes left of a run that is counted, and 4 where it streams. A newer chip has neither.
 abbrev pub isCounted : ℕ → Bool

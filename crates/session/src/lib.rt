@@ -8,6 +8,7 @@ mod step;
 pub use events::is_data;
 use settings::InUse;
 use settings::Settings;
+pub use state::resting;
 pub use step::is_counted;
 pub use step::left_after;
 pub use step::may_stall;

@@ -1,36 +1,60 @@
-// The ports that a sample leads to, phase by phase.
+// The ports that a sample leads to, phase by phase. Each is made by `fresh`: a new field changes it.
 ghost use mathlib.Core.Path.{_≡_};
-ghost use Rattle.session.specs.State.{idle, resting, passing, instructing, starting, inData};
+ghost use Rattle.session.specs.State.{fresh, withBits, atAddress, idle, resting, passing, instructing, starting, inData};
 use crate::Phase;
 use crate::Port;
 use settings::InUse;
 use settings::Settings;
+use settings::none_in_use;
 
-// The zeros of rest, with the last levels.
-fn idle(csb: bool, sclk: bool, settings: Settings) -> Port
-    ensures { λ r. ⌜ r ≡ idle csb sclk settings ⌝ }
+// In a phase, with nothing taken.
+fn fresh(csb: bool, sclk: bool, phase: Phase, settings: Settings, used: InUse) -> Port
+    ensures { λ r. ⌜ r ≡ fresh csb sclk phase settings used ⌝ }
 {
     Port {
         csb: csb,
         sclk: sclk,
-        phase: Phase::Rest,
+        phase: phase,
         bits: 0,
         value: 0,
         address: 0,
         read: false,
         settings: settings,
-        used: InUse {
-            lsb: false,
-            ascending: false,
-            sdo: false,
-            single: false,
-        },
+        used: used,
         left: 0,
     }
 }
 
+impl Port {
+    // With some bits of a piece taken.
+    fn with_bits(mut self, bits: u8, value: u16) -> Port
+        ensures { λ r. ⌜ r ≡ withBits self bits value ⌝ }
+    {
+        self.bits = bits;
+        self.value = value;
+        self
+    }
+
+    // At an address, in a direction, with so many bytes left of a run that is counted.
+    fn at_address(mut self, address: u16, read: bool, left: u8) -> Port
+        ensures { λ r. ⌜ r ≡ atAddress self address read left ⌝ }
+    {
+        self.address = address;
+        self.read = read;
+        self.left = left;
+        self
+    }
+}
+
+// The zeros of rest, with the last levels.
+fn idle(csb: bool, sclk: bool, settings: Settings) -> Port
+    ensures { λ r. ⌜ r ≡ idle csb sclk settings ⌝ }
+{
+    fresh(csb, sclk, Phase::Rest, settings, none_in_use())
+}
+
 // At rest: CSB is high.
-pub(crate) fn resting(sclk: bool, settings: Settings) -> Port
+pub fn resting(sclk: bool, settings: Settings) -> Port
     ensures { λ r. ⌜ r ≡ resting sclk settings ⌝ }
 {
     idle(true, sclk, settings)
@@ -47,25 +71,14 @@ pub(crate) fn passing(sclk: bool, settings: Settings) -> Port
 pub(crate) fn instructing(sclk: bool, bits: u8, value: u16, settings: Settings, used: InUse) -> Port
     ensures { λ r. ⌜ r ≡ instructing sclk bits value settings used ⌝ }
 {
-    Port {
-        csb: false,
-        sclk: sclk,
-        phase: Phase::Instruction,
-        bits: bits,
-        value: value,
-        address: 0,
-        read: false,
-        settings: settings,
-        used: used,
-        left: 0,
-    }
+    fresh(false, sclk, Phase::Instruction, settings, used).with_bits(bits, value)
 }
 
 // At the start of an instruction, which takes the settings as they stand.
 pub(crate) fn starting(sclk: bool, settings: Settings) -> Port
     ensures { λ r. ⌜ r ≡ starting sclk settings ⌝ }
 {
-    instructing(sclk, 0, 0, settings, settings.in_use())
+    fresh(false, sclk, Phase::Instruction, settings, settings.in_use())
 }
 
 // In the data at an address, with some bits of a byte taken.
@@ -81,16 +94,7 @@ pub(crate) fn in_data(
 ) -> Port
     ensures { λ r. ⌜ r ≡ inData sclk bits value address read left settings used ⌝ }
 {
-    Port {
-        csb: false,
-        sclk: sclk,
-        phase: Phase::Data,
-        bits: bits,
-        value: value,
-        address: address,
-        read: read,
-        settings: settings,
-        used: used,
-        left: left,
-    }
+    fresh(false, sclk, Phase::Data, settings, used)
+        .with_bits(bits, value)
+        .at_address(address, read, left)
 }

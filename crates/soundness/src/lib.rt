@@ -12,39 +12,15 @@ use session::STREAMS;
 use session::Session;
 use session::is_counted;
 use session::may_stall;
-use settings::InUse;
-use settings::Settings;
+use session::resting;
+use settings::all_clear;
 
 // The session as opening leaves it.
 pub fn opened() -> Session
     ensures { λ r. ⌜ r ≡ openedSession ⌝ }
 {
-    let used = InUse {
-        lsb: false,
-        ascending: false,
-        sdo: false,
-        single: false,
-    };
-    let port = Port {
-        csb: true,
-        sclk: false,
-        phase: Phase::Rest,
-        bits: 0,
-        value: 0,
-        address: 0,
-        read: false,
-        settings: Settings {
-            lsb: false,
-            ascending: false,
-            sdo: false,
-            single: false,
-            readback: false,
-        },
-        used: used,
-        left: 0,
-    };
     Session {
-        port: port,
+        port: resting(false, all_clear()),
         armed: false,
     }
 }

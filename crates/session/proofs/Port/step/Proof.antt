@@ -8,26 +8,11 @@ use Rattle.chip.specs.declared.Chip.{Chip}
 use Rattle.settings.specs.declared.InUse.{InUse}
 use Rattle.session.specs.declared.Phase.{Phase}
 use Rattle.session.specs.declared.Port.{Port}
-use Rattle.session.specs.State.{resting, starting, withLevels, isData, mayStall}
+use Rattle.session.specs.State.{atLevels, withLevels, resting, starting, isData, mayStall}
 use Rattle.session.specs.Step.{csbOf, sclkOf, sdioOf, sdoOf, takesBit, withInstructionBit, withDataBit, withBit, stepOf}
 use borrow.Author.Needs.{needs}
 use Rattle.session.proofs.Port.step.Statement.{statement}
 use Rattle.session.proofs.Port.step.Tie as tie
-
--- s with the levels as the last ones
-abbrev leveled : Port → Bool → Bool → Port
-leveled s csb sclk = record {
-  csb = csb;
-  sclk = sclk;
-  phase = s .phase;
-  bits = s .bits;
-  value = s .value;
-  address = s .address;
-  read = s .read;
-  left = s .left;
-  settings = s .settings;
-  used = s .used;
-}
 
 -- the step of s, by whether it takes a bit, the levels of its sample, and whether s may stall
 abbrev stepBy : Chip → Port → ℕ → Bool → Bool → Bool → Bool → Port
@@ -35,7 +20,7 @@ stepBy k s x takes csb sclk stalls =
     cond ((s .csb && not csb) && eqb (s .left) 0) (starting sclk (s .settings))
     (cond takes (withBit k (s .phase) s x)
     (cond ((not (s .csb) && csb) && not stalls) (resting sclk (s .settings))
-    (leveled s csb sclk)))
+    (atLevels s csb sclk)))
 
 step-by : (k : Chip) (s : Port) (x : ℕ) {takes csb sclk stalls : Bool} → takes ≡ takesBit s x → csb ≡ csbOf x → sclk ≡ sclkOf x
     → stalls ≡ mayStall s → stepBy k s x takes csb sclk stalls ≡ stepOf k s x
@@ -67,7 +52,7 @@ returns-2 : tie.Need-returns-2
 returns-2 c =
     let b = c .before .before .before .before .before .before .before .before .before in
     let a = b .before .args in
-    let v : leveled (a .self) (c .before .before .before .before .before .before .before .before .bit-at .result) (c .before .before .before .before .before .before .before .bit-at2 .result) ≡ withLevels (a .self) (a .sample) = λ i. leveled (a .self) (c .before .before .before .before .before .before .before .before .bit-at .ensures i) (c .before .before .before .before .before .before .before .bit-at2 .ensures i) in
+    let v : atLevels (a .self) (c .before .before .before .before .before .before .before .before .bit-at .result) (c .before .before .before .before .before .before .before .bit-at2 .result) ≡ withLevels (a .self) (a .sample) = λ i. atLevels (a .self) (c .before .before .before .before .before .before .before .before .bit-at .ensures i) (c .before .before .before .before .before .before .before .bit-at2 .ensures i) in
     no _ (c .before .before .before .if1 .left) (yes _ (c .before .before .if2 .taken) (v ∙ ap (λ (p : Phase). withBit (a .chip) p (a .self) (a .sample)) (sym (c .enum-told .given .1)))) ∙ step-by (a .chip) (a .self) (a .sample) (b .takes-bit .ensures) (c .before .before .before .before .before .before .before .before .bit-at .ensures) (c .before .before .before .before .before .before .before .bit-at2 .ensures) refl
 
 enum-told-2 : tie.Need-enum-told-2

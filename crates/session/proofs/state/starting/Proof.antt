@@ -7,11 +7,11 @@ use Rattle.session.proofs.state.starting.Tie as tie
 in-use-requires : tie.Need-in-use-requires
 in-use-requires c κs = search needs
 
-instructing-requires : tie.Need-instructing-requires
-instructing-requires c κs = search needs
+fresh-requires : tie.Need-fresh-requires
+fresh-requires c κs = search needs
 
 returns : tie.Need-returns
-returns c = c .instructing .ensures ∙ rw (c .before .in-use .ensures)
+returns c = c .fresh .ensures ∙ rw (c .before .in-use .ensures)
 
 pub starting-spec : {M : Type 1} → statement M
-starting-spec = tie.close (tie.spec in-use-requires instructing-requires returns)
+starting-spec = tie.close (tie.spec in-use-requires fresh-requires returns)
