@@ -14,7 +14,7 @@ use Rattle.chip.specs.declared.Chip.the-variants.{Newer, Older}
 use Rattle.settings.specs.declared.Settings.{Settings}
 use Rattle.settings.specs.Settings.{inUseOf, counting}
 use Rattle.session.specs.declared.Port.{Port}
-use Rattle.session.specs.State.{resting, starting, inData, isCounted}
+use Rattle.session.specs.State.{atLevels, resting, starting, inData, isCounted}
 use Rattle.session.specs.Step.{stepOf}
 use Rattle.session.specs.Event.{eventOf}
 use Rattle.session.proofs.Laws.{port-sound}
@@ -38,21 +38,7 @@ pub end-rests : (c : Chip) (s : Port) → isCounted (s .left) ≡ false → step
 unfolding stepOf bitAt
 end-rests c s h = by-levels (s .csb) (s .sclk)
   where
-    by-levels :
-        (csb sclk : Bool)
-        → stepOf c (stepOf c (record {
-          csb = csb;
-          sclk = sclk;
-          phase = s .phase;
-          bits = s .bits;
-          value = s .value;
-          address = s .address;
-          read = s .read;
-          settings = s .settings;
-          used = s .used;
-          left = s .left;
-        }) 0x00) 0x01
-        ≡ resting false (s .settings)
+    by-levels : (csb sclk : Bool) → stepOf c (stepOf c (atLevels s csb sclk) 0x00) 0x01 ≡ resting false (s .settings)
     by-levels true sclk = each (λ (t : Port). stepOf c t 0x01 ≡ resting false (s .settings)) (eqb (s .left) 0) (λ e. refl) (λ e. rw h)
     by-levels false true = rw h
     by-levels false false = rw h

@@ -20,7 +20,7 @@ use Rattle.session.specs.declared.Phase.the-variants.{Instruction, Data}
 use Rattle.session.specs.declared.Port.{Port}
 use Rattle.session.specs.declared.Event.{Event}
 use Rattle.session.specs.declared.Event.the-variants.{Nothing, Whole}
-use Rattle.session.specs.State.{resting, passing, instructing, inData, isCounted}
+use Rattle.session.specs.State.{withPhase, resting, passing, instructing, inData, isCounted}
 use Rattle.session.specs.Step.{sdioOf, sdoOf, entered, afterByte, withInstructionBit, withDataBit, withBit, stepOf}
 use Rattle.session.specs.Event.{bitEvent, eventOf}
 use Rattle.order.specs.Samples.{highFirst, lowFirst, bitsOf, instructionOf, lengthBits, lengthAndAddress, clocked}
@@ -28,24 +28,9 @@ use Rattle.order.proofs.Laws.{length-bits, length-clocked, length-bits-few}
 use Rattle.guarantees.proofs.BitsBack.{takenIn, bits-back}
 use Rattle.guarantees.proofs.Events.{noted, eventsOf, settingsOn}
 
--- a port with CSB at a level
-abbrev selected : Bool → Bool → Phase → ℕ → ℕ → ℕ → Bool → ℕ → Settings → InUse → Port
-selected csb sclk p bits value a read left t u = record {
-  csb = csb;
-  sclk = sclk;
-  phase = p;
-  bits = bits;
-  value = value;
-  address = a;
-  read = read;
-  settings = t;
-  used = u;
-  left = left;
-}
-
 -- a session with CSB low
 abbrev pub low : Bool → Phase → ℕ → ℕ → ℕ → Bool → ℕ → Settings → InUse → Port
-low sclk p bits value a read left t u = selected false sclk p bits value a read left t u
+low sclk p bits value a read left t u = withPhase (inData sclk bits value a read left t u) p
 
 -- what a sample does: the next session, and what happens
 record Does (c : Chip) (s : Port) (x : ℕ) (next : Port) (e : Event) : Type 0 where

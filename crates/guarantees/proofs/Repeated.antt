@@ -18,7 +18,7 @@ use Rattle.session.specs.declared.Phase.the-variants.{Rest, Instruction, Data}
 use Rattle.session.specs.declared.Port.{Port}
 use Rattle.session.specs.declared.Event.{Event}
 use Rattle.session.specs.declared.Event.the-variants.{Nothing}
-use Rattle.session.specs.State.{withLevels, mayStall}
+use Rattle.session.specs.State.{atLevels, withLevels, mayStall}
 use Rattle.session.specs.Step.{csbOf, sclkOf, frameStarts, takesBit, frameEnds, entered, withInstructionBit, withDataBit, usedOn, runEnds, withBit, stepOf}
 use Rattle.session.specs.Event.{eventOf}
 use Rattle.records.specs.Records.{recordOf, recordsIn}
@@ -70,18 +70,7 @@ unfolding stepOf eventOf
 port-again c p x e f = by (p .csb) (p .sclk) refl refl
   where
     levels : withLevels p x ≡ p
-    levels = λ i. record {
-      csb = e i;
-      sclk = f i;
-      phase = p .phase;
-      bits = p .bits;
-      value = p .value;
-      address = p .address;
-      read = p .read;
-      settings = p .settings;
-      used = p .used;
-      left = p .left;
-    }
+    levels = λ i. atLevels p (e i) (f i)
 
     by : (a b : Bool) → p .csb ≡ a → p .sclk ≡ b → (stepOf c p x ≡ p) × (eventOf c p x ≡ Nothing)
     by true b ea eb =

@@ -5,20 +5,10 @@ use lib.Dec.{eqb}
 use Rattle.session.specs.declared.Phase.{Phase}
 use Rattle.session.specs.declared.Phase.the-variants.{Rest, Instruction, Data}
 use Rattle.session.specs.declared.Port.{Port}
+use Rattle.session.specs.State.{withPhase}
 
 abbrev pub phaseOf : ℕ → Phase
 phaseOf last = cond (eqb last 15) Instruction (cond (eqb last 7) Data Rest)
 
 abbrev pub phased : Port → ℕ → Port
-phased s last = record {
-  csb = s .csb;
-  sclk = s .sclk;
-  phase = phaseOf last;
-  bits = s .bits;
-  value = s .value;
-  address = s .address;
-  read = s .read;
-  settings = s .settings;
-  used = s .used;
-  left = s .left;
-}
+phased s last = withPhase s (phaseOf last)

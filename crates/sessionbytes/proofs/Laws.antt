@@ -52,32 +52,7 @@ bytes-are s = simp (flag-small, phase-small)
 -- Every session goes to bytes and back unchanged.
 pub session-back : (s : Session) → sessionOf (sessionBytes s) ≡ s
 unfolding sessionOf sessionBytes
-session-back s = λ i. record {
-  port = record {
-    csb = flag-back (s .port .csb) i;
-    sclk = flag-back (s .port .sclk) i;
-    phase = phase-back (s .port .phase) i;
-    bits = s .port .bits;
-    value = word-back (s .port .value) i;
-    address = word-back (s .port .address) i;
-    read = flag-back (s .port .read) i;
-    settings = record {
-      lsb = flag-back (s .port .settings .lsb) i;
-      ascending = flag-back (s .port .settings .ascending) i;
-      sdo = flag-back (s .port .settings .sdo) i;
-      single = flag-back (s .port .settings .single) i;
-      readback = flag-back (s .port .settings .readback) i;
-    };
-    used = record {
-      lsb = flag-back (s .port .used .lsb) i;
-      ascending = flag-back (s .port .used .ascending) i;
-      sdo = flag-back (s .port .used .sdo) i;
-      single = flag-back (s .port .used .single) i;
-    };
-    left = s .port .left;
-  };
-  armed = flag-back (s .armed) i;
-}
+session-back s = simp (flag-back, phase-back, word-back)
 
 -- from a byte to its field and back
 bit-back : (x : ℕ) → leb x 1 ≡ true → bitOf (eqb x 1) ≡ x

@@ -14,7 +14,7 @@ use denote.Shadow.{shadow}
 use denote.Struct.Declared.{row}
 use Rattle.bits.specs.Bits.{bitOf}
 use Rattle.session.specs.declared.Port.{Port}
-use Rattle.session.specs.State.{withLevels}
+use Rattle.session.specs.State.{atLevels, withLevels}
 use Rattle.session.specs.Step.{csbOf, sclkOf}
 use Rattle.sessionbytes.specs.Layout.{sessionBytes, areSession, sessionOf}
 use Rattle.sessionbytes.proofs.Laws.{bytes-back}
@@ -41,17 +41,4 @@ clock-byte b x are small same =
     ∙ ap (λ (l : List ℕ). set l 2 (bitOf (sclkOf x))) (bytes-back b are small)
   where
     at : Bool → Port
-    at k =
-        let p = sessionOf b .port in
-        record {
-          csb = k;
-          sclk = sclkOf x;
-          phase = p .phase;
-          bits = p .bits;
-          value = p .value;
-          address = p .address;
-          read = p .read;
-          settings = p .settings;
-          used = p .used;
-          left = p .left;
-        }
+    at k = atLevels (sessionOf b .port) k (sclkOf x)

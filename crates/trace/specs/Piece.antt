@@ -9,25 +9,14 @@ use Rattle.chip.specs.declared.Chip.{Chip}
 use Rattle.session.specs.declared.Phase.{Phase}
 use Rattle.session.specs.declared.Phase.the-variants.{Rest, Instruction, Data}
 use Rattle.session.specs.declared.Port.{Port}
-use Rattle.session.specs.State.{isData, soundPort}
+use Rattle.session.specs.State.{atLevels, withBits, isData, soundPort}
 use Rattle.session.specs.Step.{usedOn}
 use Rattle.trace.specs.declared.scan.Piece.{Piece}
 use Rattle.trace.specs.Path.{Quiet}
 
 -- a port with the level, the bits and the value of a piece
 abbrev pub held : Port → Piece → Port
-held s p = record {
-  csb = s .csb;
-  sclk = eqb (p .level) 2;
-  phase = s .phase;
-  bits = p .bits;
-  value = p .value;
-  address = s .address;
-  read = s .read;
-  left = s .left;
-  settings = s .settings;
-  used = s .used;
-}
+held s p = withBits (atLevels s (s .csb) (eqb (p .level) 2)) (p .bits) (p .value)
 
 -- how many bits come before the last of a piece
 abbrev pub lastOf : Phase → ℕ
