@@ -3,6 +3,7 @@ use Prim.Native.Nat.{ℕ}
 use mathlib.Core.Bool.{cond}
 use mathlib.Core.List.{List}
 use lib.Dec.{eqb}
+use Rattle.numbers.specs.Numbers.{done}
 use Rattle.chip.specs.declared.Chip.{Chip}
 use Rattle.registers.specs.Banks.{Banks}
 use Rattle.reader.specs.Calls.{Opening, Outcome, readOf}
@@ -25,6 +26,6 @@ leftBy o = left (o .number) (o .count) (o .world .banks) (o .world .touched) (o 
 -- Reading on from what opening left; a refused opening is all.
 unfoldable pub readFrom : Chip → List ℕ → Opening → List ℕ → List ℕ → List ℕ → Left
 readFrom c m o ws samples records =
-    cond (eqb (o .number) 0)
+    cond (eqb (o .number) done)
     (leftBy (readOf c m (record { session = o .session; banks = o .banks; touched = ws }) samples records))
     (left (o .number) 0 (o .banks) ws records)

@@ -7,6 +7,7 @@ ghost use Rattle.reader.specs.Calls.{openOf};
 ghost use Rattle.benchmark.specs.Fresh.{left, readFrom};
 use chip::Chip;
 use chip::Part;
+use numbers::DONE;
 use reader::open_on;
 use reader::read_on;
 
@@ -24,7 +25,7 @@ fn read_fresh(
     ensures { λ r. ⌜ left r (now (count .exit)) (banks (now (active .exit)) (now (buffer .exit))) (now (words .exit)) (now (records .exit)) ≡ readFrom chip (now (map .entry)) (openOf chip (now (map .entry)) (banks (now (active .entry)) (now (buffer .entry)))) (now (words .entry)) (now (samples .entry)) (now (records .entry)) ⌝ }
 {
     let opened = open_on(chip, map, active, buffer);
-    if opened.number != 0 {
+    if opened.number != DONE {
         *count = 0;
         return opened.number as u32;
     }

@@ -6,6 +6,7 @@ use Rattle.chip.specs.declared.Part.{Part}
 use Rattle.chip.specs.declared.Part.the-variants.{Ad9557, Ad9508}
 use Rattle.chip.specs.declared.Chip.{Chip}
 use Rattle.chip.specs.declared.Chip.the-variants.{Newer, Older}
+use Rattle.chip.specs.Registers.{transferRegister, olderTransfer}
 
 abbrev pub isNewer : Chip → Bool
 isNewer Newer = true
@@ -23,8 +24,8 @@ readsBuffer (Older part top) = partReadsBuffer part
 
 -- the register whose bit 0 asks for a transfer
 abbrev pub transferPlace : Chip → ℕ
-transferPlace Newer = 0x000F
-transferPlace (Older part top) = 0x0005
+transferPlace Newer = transferRegister
+transferPlace (Older part top) = olderTransfer
 
 -- Number 12, as far as no map is needed: the top is at least 0x000F and at most 0x1FFF.
 abbrev pub topGood : Chip → Bool

@@ -2,6 +2,20 @@
 ghost use mathlib.Core.Path.{_≡_};
 ghost use Rattle.chip.specs.Chip.{isNewer, partReadsBuffer, readsBuffer, topGood};
 
+// The control registers of a newer chip: configuration A and B, and the transfer.
+pub const CONFIGURATION_A: u16 = 0x0000;
+
+pub const CONFIGURATION_B: u16 = 0x0001;
+
+pub const TRANSFER: u16 = 0x000F;
+
+// Those of an older one: the bit order, what stage the AD9557 reads, and the transfer.
+pub const SERIAL_CONTROL: u16 = 0x0000;
+
+pub const READBACK_CONTROL: u16 = 0x0004;
+
+pub const OLDER_TRANSFER: u16 = 0x0005;
+
 // The older parts. They differ in one thing: the AD9557 can read the buffer stage.
 pub enum Part {
     Ad9557,

@@ -7,6 +7,7 @@ use lib.Dec.{eqb, leb}
 use Rattle.bits.specs.Tests.{unless}
 use Rattle.bits.specs.Buffer.{filled}
 use Rattle.bits.specs.Bytes.{wordBytes}
+use Rattle.numbers.specs.Numbers.{done, shortOut, flagLost}
 use Rattle.chip.specs.declared.Chip.the-variants.{Newer}
 use Rattle.regmap.specs.Format.{versionOf, countOf, flagsOf, lengthSize, entrySize, headSizeIn, headOf}
 use Rattle.maptest.specs.MapTest.{mapNumber}
@@ -26,10 +27,10 @@ convertedTo version m = cond (eqb (versionOf m) version) m (headBytes version (c
 -- Numbers 2 and 3 as the map test gives them; 13, after 3, for going back with bit 0 set; 11, after 13, for a buffer too short.
 unfoldable pub convertNumber : ℕ → List ℕ → ℕ → ℕ
 convertNumber version m room =
-    unless (eqb (mapNumber Newer m) 0) (mapNumber Newer m)
-    (unless (eqb version 2 || eqb (flagsOf m) 0) 13
-    (unless (leb (length (convertedTo version m)) room) 11
-    0))
+    unless (eqb (mapNumber Newer m) done) (mapNumber Newer m)
+    (unless (eqb version 2 || eqb (flagsOf m) 0) flagLost
+    (unless (leb (length (convertedTo version m)) room) shortOut
+    done))
 
 -- what a call leaves: the number, how many bytes it made, and the outgoing buffer
 pub record Converting : Type 0 where
@@ -43,6 +44,6 @@ converting number count bytes = record { number = number; count = count; bytes =
 -- A call of the converter, on a map and a lent buffer.
 unfoldable pub convertOf : ℕ → List ℕ → List ℕ → Converting
 convertOf version m buffer =
-    cond (eqb (convertNumber version m (length buffer)) 0)
-    (converting 0 (length (convertedTo version m)) (filled (convertedTo version m) buffer))
+    cond (eqb (convertNumber version m (length buffer)) done)
+    (converting done (length (convertedTo version m)) (filled (convertedTo version m) buffer))
     (converting (convertNumber version m (length buffer)) 0 buffer)

@@ -6,6 +6,9 @@ ghost use Rattle.bits.specs.Buffer.{Put};
 ghost use Rattle.regmap.specs.Format.{mostCount};
 ghost use Rattle.convert.specs.Convert.{headBytes, convertedTo, convertNumber, converting, convertOf};
 use maptest::map_test;
+use numbers::DONE;
+use numbers::FLAG_LOST;
+use numbers::SHORT_OUT;
 use regmap::ENTRY_SIZE;
 use regmap::FLAGGED;
 use regmap::FLAGGED_HEAD_SIZE;
@@ -28,16 +31,16 @@ fn number_of(wished: u8, map: &[u8], room: usize) -> u8
     ensures { λ r. ⌜ r ≡ convertNumber wished (now (map .entry)) room ⌝ }
 {
     let number = map_test(map);
-    if number != 0 {
+    if number != DONE {
         return number;
     }
     if (wished == FLAGGED) | (flags(map) == 0) {
         if room < head_size(wished) + ENTRY_SIZE * count(map) {
-            return 11;
+            return SHORT_OUT;
         }
-        return 0;
+        return DONE;
     }
-    13
+    FLAG_LOST
 }
 
 // Puts the head of a map of n registers at the start of the buffer; the place after it.
@@ -90,10 +93,10 @@ fn convert(wished: u8, map: &[u8], out: &mut [u8]) -> Converted
     ensures { λ r. ⌜ converting (r .number) (r .length) (now (out .exit)) ≡ convertOf wished (now (map .entry)) (now (out .entry)) ⌝ }
 {
     let number = number_of(wished, map, out.len());
-    if number == 0 {
+    if number == DONE {
         let length = put_map(wished, map, out);
         return Converted {
-            number: 0,
+            number: DONE,
             length: length,
         };
     }

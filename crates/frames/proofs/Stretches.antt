@@ -10,6 +10,7 @@ use lib.Dec.{eqb, leb, ltb}
 use borrow.Author.Tests.{eqb-true, eqb-false, leb-true, ltb-true, not-true}
 use Rattle.bits.specs.Tests.{every}
 use Rattle.bits.proofs.Cases.{each, and-left, and-right, or-left, every-true}
+use Rattle.chip.specs.Registers.{configurationA, configurationB, transferRegister}
 use Rattle.order.specs.Order.{RunByte}
 use Rattle.frames.specs.Frames.{Stretch, joinedTo, stretchesOf, wantedOf}
 use Rattle.frames.specs.Calls.{rising, mayBeListed, allMayBeListed, registersTests}
@@ -66,8 +67,8 @@ good-rising (a ∷ rest) [] r m = tt
 good-rising (a ∷ rest) (v ∷ bytes) r m =
     let here = and-left (mayBeListed a) (allMayBeListed rest) m in
     let low = leb-true a 0x7FFF (and-left (leb a 0x7FFF) _ here) in
-    let control = not-true (eqb a 0x0000 || eqb a 0x0001 || eqb a 0x000F) (and-right (leb a 0x7FFF) _ here) in
-    let first = or-left (eqb a 0x0000) (eqb a 0x0001) (or-left (eqb a 0x0000 || eqb a 0x0001) (eqb a 0x000F) control) in
+    let control = not-true (eqb a configurationA || eqb a configurationB || eqb a transferRegister) (and-right (leb a 0x7FFF) _ here) in
+    let first = or-left (eqb a configurationA) (eqb a configurationB) (or-left (eqb a configurationA || eqb a configurationB) (eqb a transferRegister) control) in
     let above : a ≡ 0 → ⊥ = eqb-false a 0 first in
     (omega arith, omega arith, rising-after a rest bytes r (and-right (mayBeListed a) (allMayBeListed rest) m))
 

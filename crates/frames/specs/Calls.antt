@@ -6,6 +6,8 @@ use lib.ListN.{length}
 use lib.Dec.{eqb, ltb, leb}
 use Rattle.bits.specs.Tests.{every, unless}
 use Rattle.bits.specs.Buffer.{filled}
+use Rattle.numbers.specs.Numbers.{done, shortOut, badRegisters}
+use Rattle.chip.specs.Registers.{configurationA, configurationB, transferRegister}
 use Rattle.setup.specs.Form.{listBytes}
 use Rattle.frames.specs.Frames.{wantedOf, framesOf}
 
@@ -21,7 +23,7 @@ rising (a ∷ b ∷ rest) = ltb a b && rising (b ∷ rest)
 
 -- up to 0x7FFF, and no control register
 abbrev pub mayBeListed : ℕ → Bool
-mayBeListed a = leb a 0x7FFF && not (eqb a 0x0000 || eqb a 0x0001 || eqb a 0x000F)
+mayBeListed a = leb a 0x7FFF && not (eqb a configurationA || eqb a configurationB || eqb a transferRegister)
 
 unfoldable pub allMayBeListed : List ℕ → Bool
 allMayBeListed [] = true
@@ -44,9 +46,9 @@ framesBytes up addresses bytes = listBytes (framesOf up (wantedOf addresses byte
 -- Number 19 for what is listed; 11, after 19, for no room for the orders.
 unfoldable pub framesNumber : Bool → List ℕ → List ℕ → ℕ → ℕ
 framesNumber up addresses bytes room =
-    unless (every (registersTests addresses bytes)) 19
-    (unless (leb (length (framesBytes up addresses bytes)) room) 11
-    0)
+    unless (every (registersTests addresses bytes)) badRegisters
+    (unless (leb (length (framesBytes up addresses bytes)) room) shortOut
+    done)
 
 -- what a call leaves: the number, how many bytes it made, and the outgoing buffer
 pub record Making : Type 0 where
@@ -60,6 +62,6 @@ making number count bytes = record { number = number; count = count; bytes = byt
 -- A call, on the wished direction, what is listed and a lent buffer.
 unfoldable pub makeOf : Bool → List ℕ → List ℕ → List ℕ → Making
 makeOf up addresses bytes buffer =
-    cond (eqb (framesNumber up addresses bytes (length buffer)) 0)
-    (making 0 (length (framesBytes up addresses bytes)) (filled (framesBytes up addresses bytes) buffer))
+    cond (eqb (framesNumber up addresses bytes (length buffer)) done)
+    (making done (length (framesBytes up addresses bytes)) (filled (framesBytes up addresses bytes) buffer))
     (making (framesNumber up addresses bytes (length buffer)) 0 buffer)

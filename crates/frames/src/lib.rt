@@ -13,6 +13,9 @@ mod frame;
 mod registers;
 
 use frame::put_frame;
+use numbers::BAD_REGISTERS;
+use numbers::DONE;
+use numbers::SHORT_OUT;
 use registers::registers_good;
 use setup::DATA_AT;
 
@@ -61,11 +64,11 @@ fn number_of(addresses: &[u16], bytes: &[u8], room: usize) -> u8
 {
     if registers_good(addresses, bytes) {
         if room < frames_size(addresses, bytes) {
-            return 11;
+            return SHORT_OUT;
         }
-        return 0;
+        return DONE;
     }
-    19
+    BAD_REGISTERS
 }
 
 // Puts the orders of all stretches, from the lowest up; how many bytes they are.
@@ -89,10 +92,10 @@ pub fn fewest_frames(ascending: bool, addresses: &[u16], bytes: &[u8], out: &mut
     ensures { λ r. ⌜ making (r .number) (r .length) (now (out .exit)) ≡ makeOf ascending (now (addresses .entry)) (now (bytes .entry)) (now (out .entry)) ⌝ }
 {
     let number = number_of(addresses, bytes, out.len());
-    if number == 0 {
+    if number == DONE {
         let length = put_frames(ascending, addresses, bytes, out);
         return Made {
-            number: 0,
+            number: DONE,
             length: length,
         };
     }

@@ -2,6 +2,9 @@
 ghost use mathlib.Core.Path.{_≡_};
 ghost use Rattle.bits.specs.Tests.{every};
 ghost use Rattle.frames.specs.Calls.{rising, mayBeListed, allMayBeListed, registersTests};
+use chip::CONFIGURATION_A;
+use chip::CONFIGURATION_B;
+use chip::TRANSFER;
 
 // The most registers that may be listed.
 const MOST_REGISTERS: usize = 1000;
@@ -24,7 +27,8 @@ fn rises(addresses: &[u16]) -> bool
 fn may_be_listed(address: u16) -> bool
     ensures { λ r. ⌜ r ≡ mayBeListed address ⌝ }
 {
-    (address <= 0x7FFF) & !((address == 0x0000) | (address == 0x0001) | (address == 0x000F))
+    (address <= 0x7FFF)
+        & !((address == CONFIGURATION_A) | (address == CONFIGURATION_B) | (address == TRANSFER))
 }
 
 // Whether each may.

@@ -13,11 +13,13 @@ use Rattle.bits.specs.Bits.{bitAt}
 use Rattle.bits.proofs.Cases.{each, and-left, and-right, or-left, or-right}
 use Rattle.chip.specs.declared.Chip.{Chip}
 use Rattle.chip.specs.declared.Chip.the-variants.{Newer, Older}
+use Rattle.chip.specs.Registers.{configurationA, configurationB}
 use Rattle.chip.specs.Chip.{isNewer, transferPlace}
 use Rattle.regmap.specs.Format.{registerAt, plain, buffered, control}
 use Rattle.maptest.specs.MapTest.{mapNumber}
 use Rattle.maptest.proofs.Laws.{control-at, control-transfer}
 use Rattle.card.specs.Card.{isMirror}
+use Rattle.settings.specs.Bits.{transferBit}
 use Rattle.settings.specs.Settings.{resets}
 use Rattle.registers.specs.Banks.{Banks, Mapped, defaultBanks, transferred}
 use Rattle.registers.proofs.Laws.{in-banks, getD-transfer}
@@ -38,17 +40,17 @@ inForce a b = getD (b .active) a 0
 -- ---- one write
 
 -- a transfer is no soft reset either
-not-at-zero : (c : Chip) (a : ℕ) → a ≡ transferPlace c → (isNewer c && eqb a 0x0000) ≡ false
+not-at-zero : (c : Chip) (a : ℕ) → a ≡ transferPlace c → (isNewer c && eqb a configurationA) ≡ false
 not-at-zero Newer a e = rw e
 not-at-zero (Older part top) a e = refl
 
 -- and a write to 0x0000 is no transfer
-zero-no-transfer : (c : Chip) (p : RunByte) → (isNewer c && eqb (p .address) 0x0000) ≡ true → isTransfer c p ≡ false
+zero-no-transfer : (c : Chip) (p : RunByte) → (isNewer c && eqb (p .address) configurationA) ≡ true → isTransfer c p ≡ false
 zero-no-transfer c p z = by (isTransfer c p) refl
   where
     by : (t : Bool) → isTransfer c p ≡ t → t ≡ false
     by true e =
-        let there = eqb-true (p .address) (transferPlace c) (and-left (eqb (p .address) (transferPlace c)) (bitAt (p .byte) 0) e) in
+        let there = eqb-true (p .address) (transferPlace c) (and-left (eqb (p .address) (transferPlace c)) (bitAt (p .byte) transferBit) e) in
         absurd (false≢true (sym (not-at-zero c (p .address) there) ∙ z))
     by false e = refl
 
@@ -59,7 +61,7 @@ no-reset-effect :
     → P (controlEffect c (p .address) (p .byte))
 unfolding controlEffect
 no-reset-effect P c p calm moves other =
-    each P (isNewer c && eqb (p .address) 0x0000)
+    each P (isNewer c && eqb (p .address) configurationA)
     (λ z. each P (isMirror (p .byte))
     (λ i. each P (resets (p .byte)) (λ r. absurd (false≢true (sym (rw (z, i, r) at calm)))) (λ r. other (zero-no-transfer c p z) .0))
     (λ i. other (zero-no-transfer c p z) .1))
@@ -71,7 +73,7 @@ transfer-write :
     → writeBanks c m b (p .address) (p .byte) ≡ transferred m b
 unfolding writeBanks applied effectOf controlEffect
 transfer-write c m b p good t =
-    let there : p .address ≡ transferPlace c = eqb-true (p .address) (transferPlace c) (and-left (eqb (p .address) (transferPlace c)) (bitAt (p .byte) 0) t) in
+    let there : p .address ≡ transferPlace c = eqb-true (p .address) (transferPlace c) (and-left (eqb (p .address) (transferPlace c)) (bitAt (p .byte) transferBit) t) in
     let kind : registerAt m (p .address) .kind ≡ control = ap (λ (a : ℕ). registerAt m a .kind) there ∙ control-transfer c m good in
     rw (kind, not-at-zero c (p .address) there, t)
 
@@ -120,7 +122,7 @@ clear-of-resets c (p ∷ ps) clear =
     (clear-of-resets c ps (and-right (not (setsAnything c p)) (clearOfSettings c ps) clear))
   where
     calm : (c : Chip) (p : RunByte) → setsAnything c p ≡ false → isReset c p ≡ false
-    calm Newer p h = rw (or-left (eqb (p .address) 0x0000) (eqb (p .address) 0x0001) h) refl
+    calm Newer p h = rw (or-left (eqb (p .address) configurationA) (eqb (p .address) configurationB) h) refl
     calm (Older part top) p h = refl
 
 write-append : (c : Chip) (m : List ℕ) (ps qs : List RunByte) (b : Banks) → writeAll c m (ps ++ qs) b ≡ writeAll c m qs (writeAll c m ps b)
@@ -217,9 +219,9 @@ reset-effect : (c : Chip) (m : List ℕ) (b : Banks) (p : RunByte) → mapNumber
 unfolding effectOf controlEffect
 reset-effect (Older part top) m b p good r = absurd (false≢true r)
 reset-effect Newer m b p good r =
-    let zero-place = and-left (eqb (p .address) 0x0000) (isMirror (p .byte) && resets (p .byte)) r in
-    let both = and-right (eqb (p .address) 0x0000) (isMirror (p .byte) && resets (p .byte)) r in
-    let kind : registerAt m (p .address) .kind ≡ control = ap (λ (a : ℕ). registerAt m a .kind) (eqb-true (p .address) 0x0000 zero-place) ∙ control-at Newer m good 0x0000 (omega arith) refl in
+    let zero-place = and-left (eqb (p .address) configurationA) (isMirror (p .byte) && resets (p .byte)) r in
+    let both = and-right (eqb (p .address) configurationA) (isMirror (p .byte) && resets (p .byte)) r in
+    let kind : registerAt m (p .address) .kind ≡ control = ap (λ (a : ℕ). registerAt m a .kind) (eqb-true (p .address) configurationA zero-place) ∙ control-at Newer m good configurationA (omega arith) refl in
     rw (kind, zero-place, and-left (isMirror (p .byte)) (resets (p .byte)) both, and-right (isMirror (p .byte)) (resets (p .byte)) both) refl
 
 pub after-whole-reset : (c : Chip) (m : List ℕ) (before : List RunByte) (p : RunByte) (later : List RunByte) (b : Banks) → mapNumber c m ≡ 0 → isReset c p ≡ true

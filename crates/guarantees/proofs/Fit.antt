@@ -12,6 +12,7 @@ use borrow.Author.Tests.{ltb-true}
 use Rattle.bits.proofs.Cases.{each, and-left, and-right, or-left, or-right}
 use Rattle.chip.specs.declared.Chip.{Chip}
 use Rattle.chip.specs.declared.Chip.the-variants.{Newer, Older}
+use Rattle.chip.specs.Registers.{configurationA, configurationB}
 use Rattle.settings.specs.declared.Settings.{Settings}
 use Rattle.settings.specs.declared.InUse.{InUse}
 use Rattle.settings.specs.Settings.{inUseOf, counting, nextAddress, newerAfter}
@@ -44,7 +45,7 @@ sent-bytes false k vs h = sent-data vs h
 settings-kept : (t : Settings) (p : RunByte) → isConfiguration p ≡ false → newerAfter t (p .address) (p .byte) ≡ t
 unfolding newerAfter
 settings-kept t p h =
-    rw (or-left (eqb (p .address) 0x0000) (eqb (p .address) 0x0001) h, or-right (eqb (p .address) 0x0000) (eqb (p .address) 0x0001) h)
+    rw (or-left (eqb (p .address) configurationA) (eqb (p .address) configurationB) h, or-right (eqb (p .address) configurationA) (eqb (p .address) configurationB) h)
 
 -- the next instruction finds the settings in use: in a stream there is none, a read changes no setting, and of a single-instruction write
 -- only the last byte may

@@ -14,6 +14,7 @@ use Rattle.bits.specs.Bytes.{wordAt}
 use Rattle.bits.proofs.Cases.{and-left, and-right, or-left, or-right}
 use Rattle.chip.specs.declared.Chip.{Chip}
 use Rattle.chip.specs.declared.Chip.the-variants.{Newer}
+use Rattle.chip.specs.Registers.{configurationA, configurationB}
 use Rattle.settings.specs.declared.Settings.{Settings}
 use Rattle.settings.specs.Settings.{newerAfter}
 use Rattle.run.specs.Reading.{World, runOf, recordsOf, recordCount}
@@ -40,8 +41,8 @@ unfolding settingsLeft clearOfSettings newerAfter
 clear-settings t [] h = refl
 clear-settings t (p ∷ ps) h =
     let c = not-true (isConfiguration p) (and-left (not (isConfiguration p)) (clearOfSettings Newer ps) h) in
-    let a : eqb (p .address) 0x0000 ≡ false = or-left (eqb (p .address) 0x0000) (eqb (p .address) 0x0001) c in
-    let b : eqb (p .address) 0x0001 ≡ false = or-right (eqb (p .address) 0x0000) (eqb (p .address) 0x0001) c in
+    let a : eqb (p .address) configurationA ≡ false = or-left (eqb (p .address) configurationA) (eqb (p .address) configurationB) c in
+    let b : eqb (p .address) configurationB ≡ false = or-right (eqb (p .address) configurationA) (eqb (p .address) configurationB) c in
     rw (a, b) (clear-settings t ps (and-right (not (isConfiguration p)) (clearOfSettings Newer ps) h))
 
 read-settings : (t : Settings) (ps : List RunByte) → settingsLeft Newer true t ps ≡ t

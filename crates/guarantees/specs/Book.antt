@@ -6,6 +6,7 @@ use lib.ListN.{length, take}
 use lib.Dec.{eqb}
 use Rattle.chip.specs.declared.Chip.{Chip}
 use Rattle.chip.specs.declared.Chip.the-variants.{Newer, Older}
+use Rattle.chip.specs.Registers.{serialControl, readbackControl}
 use Rattle.registers.specs.Banks.{Banks}
 use Rattle.touched.specs.Touched.{touchedWords}
 use Rattle.writing.specs.Write.{effectAt, onByte, writeBanks}
@@ -54,7 +55,7 @@ touchedBook c m o s b ws = touchedAll c m (wholeRun c o s) b ws
 -- 0x0000 or 0x0001 of a newer chip; document 02, Ask 1: 0x0000 or 0x0004 of an older one
 abbrev pub setsAnything : Chip → RunByte → Bool
 setsAnything Newer p = isConfiguration p
-setsAnything (Older part top) p = eqb (p .address) 0x0000 || eqb (p .address) 0x0004
+setsAnything (Older part top) p = eqb (p .address) serialControl || eqb (p .address) readbackControl
 
 -- the run is clear of these
 unfoldable pub clearOfSettings : Chip → List RunByte → Bool

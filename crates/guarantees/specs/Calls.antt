@@ -4,6 +4,7 @@ use Prim.Native.Nat.{ℕ}
 use mathlib.Core.Bool.{Bool, cond}
 use mathlib.Core.List.{List, [], _∷_, _++_}
 use lib.Dec.{eqb}
+use Rattle.numbers.specs.Numbers.{done}
 use Rattle.chip.specs.declared.Chip.{Chip}
 use Rattle.run.specs.Reading.{World}
 use Rattle.reader.specs.Calls.{Outcome, readOf}
@@ -18,7 +19,7 @@ abbrev pub outcomeOf : Chip → List ℕ → World → Call → Outcome
 outcomeOf c m w call = readOf c m w (call .samples) (call .records)
 
 abbrev pub isDone : Chip → List ℕ → World → Call → Bool
-isDone c m w call = eqb (outcomeOf c m w call .number) 0
+isDone c m w call = eqb (outcomeOf c m w call .number) done
 
 -- the session and the banks after all calls
 unfoldable pub afterCalls : Chip → List ℕ → World → List Call → World

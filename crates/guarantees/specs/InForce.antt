@@ -8,6 +8,7 @@ use lib.ListN.{length, getD, take}
 use Rattle.sizes.specs.Sizes.{recordSize}
 use Rattle.regmap.specs.Format.{registerAt, buffered}
 use Rattle.chip.specs.declared.Chip.{Chip}
+use Rattle.chip.specs.Registers.{configurationA}
 use Rattle.chip.specs.Chip.{isNewer}
 use Rattle.card.specs.Card.{isMirror}
 use Rattle.settings.specs.Settings.{resets, transfersAt}
@@ -30,7 +31,7 @@ anyTransfer c (p ∷ ps) = isTransfer c p || anyTransfer c ps
 
 -- Document 02, Ask 11: a soft reset is a byte to 0x0000 of a newer chip with bit 7 set; Ask 2: it is its own mirror.
 abbrev pub isReset : Chip → RunByte → Bool
-isReset c p = (isNewer c && eqb (p .address) 0x0000) && (isMirror (p .byte) && resets (p .byte))
+isReset c p = (isNewer c && eqb (p .address) configurationA) && (isMirror (p .byte) && resets (p .byte))
 
 unfoldable pub anyReset : Chip → List RunByte → Bool
 anyReset c [] = false

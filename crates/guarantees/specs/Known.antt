@@ -5,6 +5,7 @@ use mathlib.Core.Bool.{Bool, true, false}
 use mathlib.Core.List.{List, [], _∷_, _++_}
 use lib.ListN.{length, replicate, getD, take, drop}
 use Rattle.bits.specs.Bits.{merged}
+use Rattle.numbers.specs.Numbers.{badSamples}
 use Rattle.chip.specs.declared.Chip.the-variants.{Newer}
 use Rattle.regmap.specs.Format.{lengthOf, versionOf, countOf}
 use Rattle.maptest.specs.MapTest.{mapNumber}
@@ -142,7 +143,7 @@ pub record KnownResults : Type 0 where
   -- document 02, Ask 11: SDIO and SDO of a sample put in may differ; with another SCLK it is a bit more, and with a spare bit it is refused
   pub again-same-clock : recordsAfterOpening map16 (withSecond 0x0C) ≡ 1 ∷ 0x00 ∷ 0x0A ∷ 0x3C ∷ 0x3C ∷ 1 ∷ 0x3C ∷ []
   pub again-other-clock : recordsAfterOpening map16 (withSecond 0x02) ≡ 1 ∷ 0x00 ∷ 0x05 ∷ 0x1E ∷ 0x00 ∷ 0 ∷ 0x00 ∷ 3 ∷ 0x00 ∷ 0x04 ∷ 0x01 ∷ 0x01 ∷ 0 ∷ 0x00 ∷ []
-  pub again-spare-bit : readNumber Newer map16 (opened map16) (withSecond 0x10) 7 ≡ 5
+  pub again-spare-bit : readNumber Newer map16 (opened map16) (withSecond 0x10) 7 ≡ badSamples
   -- k = 1,000: 16,035 samples, or 48,003
   pub thousand : Sends (writeThousand 2) 16035
   pub thousand-single : Sends (writeThousand 6) 48003

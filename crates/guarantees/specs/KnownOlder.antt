@@ -4,6 +4,7 @@ use mathlib.Core.Path.{_≡_}
 use mathlib.Core.Bool.{Bool, true, false}
 use mathlib.Core.List.{List, [], _∷_, _++_}
 use lib.ListN.{length, take, drop}
+use Rattle.numbers.specs.Numbers.{done, badMapEntry, badStart, badTop}
 use Rattle.chip.specs.declared.Part.the-variants.{Ad9557, Ad9508}
 use Rattle.chip.specs.declared.Chip.{Chip}
 use Rattle.chip.specs.declared.Chip.the-variants.{Older}
@@ -45,9 +46,9 @@ abbrev pub stalledAt : ℕ → List ℕ → List ℕ
 stalledAt s xs = take s xs ++ (0x01 ∷ 0x01 ∷ 0x00 ∷ drop s xs)
 
 pub record OlderResults : Type 0 where
-  pub good : mapTestNumber ad9508 map9508 ≡ 0
-  pub other-top : mapTestNumber (Older Ad9508 0x0010) map9508 ≡ 12
-  pub other-part : mapTestNumber (Older Ad9557 0x000F) map9508 ≡ 3
+  pub good : mapTestNumber ad9508 map9508 ≡ done
+  pub other-top : mapTestNumber (Older Ad9508 0x0010) map9508 ≡ badTop
+  pub other-part : mapTestNumber (Older Ad9557 0x000F) map9508 ≡ badMapEntry
   -- the instruction of two bytes: write, length 01, address N; then the bytes for N and N less 1
   pub two-bytes-bits : take 16 (orderBits ad9508 (writeDown 0x000B (0x22 ∷ 0x33 ∷ [])))
       ≡ bitsOfDigits (0 ∷ 0 ∷ 1 ∷ 0 ∷ 0 ∷ 0 ∷ 0 ∷ 0 ∷ 0 ∷ 0 ∷ 0 ∷ 0 ∷ 1 ∷ 0 ∷ 1 ∷ 1 ∷ [])
@@ -64,8 +65,8 @@ pub record OlderResults : Type 0 where
   -- elsewhere a rise resets the port: inside the instruction
   pub no-stall : olderRecords (take 17 (samplesOf ad9508 (writeDown 0x000B (0x22 ∷ []))) ++ (0x01 ∷ [])) ≡ 3 ∷ 0x00 ∷ 0x00 ∷ 8 ∷ 0 ∷ 0 ∷ 0 ∷ []
   -- lowest bit first goes up, to the top and no further
-  pub over-the-top : sendNumber ad9508 (order 0 1 0x000F 2 (1 ∷ 2 ∷ [])) 1000 ≡ 9
-  pub to-the-top : sendNumber ad9508 (order 0 1 0x000E 2 (1 ∷ 2 ∷ [])) 1000 ≡ 0
+  pub over-the-top : sendNumber ad9508 (order 0 1 0x000F 2 (1 ∷ 2 ∷ [])) 1000 ≡ badStart
+  pub to-the-top : sendNumber ad9508 (order 0 1 0x000E 2 (1 ∷ 2 ∷ [])) 1000 ≡ done
   -- highest bit first goes down, to address 0 and no further
-  pub below-zero : sendNumber ad9508 (writeDown 0x0000 (1 ∷ 2 ∷ [])) 1000 ≡ 9
-  pub to-zero : sendNumber ad9508 (writeDown 0x0001 (1 ∷ 2 ∷ [])) 1000 ≡ 0
+  pub below-zero : sendNumber ad9508 (writeDown 0x0000 (1 ∷ 2 ∷ [])) 1000 ≡ badStart
+  pub to-zero : sendNumber ad9508 (writeDown 0x0001 (1 ∷ 2 ∷ [])) 1000 ≡ done

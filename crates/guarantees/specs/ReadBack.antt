@@ -6,6 +6,7 @@ use mathlib.Core.List.{List, [], _∷_, _++_}
 use lib.ListN.{length}
 use Rattle.bits.specs.Buffer.{filled}
 use Rattle.sizes.specs.Sizes.{recordSize}
+use Rattle.numbers.specs.Numbers.{done}
 use Rattle.chip.specs.declared.Chip.{Chip}
 use Rattle.settings.specs.declared.Settings.{Settings}
 use Rattle.settings.specs.Settings.{settingsAfter}
@@ -59,7 +60,7 @@ recordsLeft c m read b t (p ∷ ps) =
 -- their rise; the words with the registers that they touch; and the session at rest again, with the settings that the bytes leave. The line bytes of a read are the zeros that were sent.
 abbrev pub readBackOf : Chip → List ℕ → World → Order → List ℕ → Outcome
 readBackOf c m w o records = record {
-  number = 0;
+  number = done;
   world = record {
     session = record { port = resting false (settingsLeft c (isRead o) (w .session .port .settings) (runBytes c o)); armed = false };
     banks = banksRaised c m (isRead o) (w .banks) (runBytes c o);

@@ -2,6 +2,7 @@
 use Prim.Native.Nat.{ℕ}
 use mathlib.Core.Bool.{cond}
 use mathlib.Core.List.{List}
+use Rattle.numbers.specs.Numbers.{badSession}
 use Rattle.chip.specs.declared.Chip.{Chip}
 use Rattle.sessionbytes.specs.Layout.{sessionBytes, areSession, sessionOf}
 use Rattle.registers.specs.Banks.{Banks}
@@ -48,7 +49,7 @@ worldOf s b ws = record { session = sessionOf s; banks = b; touched = ws }
 
 -- A call of the reader. Bytes that are no session are refused with 1, and all is as given.
 unfoldable pub readOf : Chip → List ℕ → List ℕ → Banks → List ℕ → List ℕ → List ℕ → Outcome
-readOf c m s b ws samples records = cond (areSession s) (outcomeOf (reader.readOf c m (worldOf s b ws) samples records)) (outcome 1 s b ws 0 records)
+readOf c m s b ws samples records = cond (areSession s) (outcomeOf (reader.readOf c m (worldOf s b ws) samples records)) (outcome badSession s b ws 0 records)
 
 -- what a call for the next record leaves: the same, and how many samples were read
 pub record Next : Type 0 where
@@ -64,4 +65,4 @@ nextBytes n = next (outcomeOf (n .outcome)) (n .taken)
 -- A call for the next record. Bytes that are no session are refused as by the reader.
 unfoldable pub nextOf : Chip → List ℕ → List ℕ → Banks → List ℕ → List ℕ → List ℕ → Next
 nextOf c m s b ws samples records =
-    cond (areSession s) (nextBytes (nextrecord.nextOf c m (worldOf s b ws) samples records)) (next (outcome 1 s b ws 0 records) 0)
+    cond (areSession s) (nextBytes (nextrecord.nextOf c m (worldOf s b ws) samples records)) (next (outcome badSession s b ws 0 records) 0)

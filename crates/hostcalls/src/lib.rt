@@ -5,6 +5,7 @@ ghost use Rattle.registers.specs.Banks.{banks};
 ghost use Rattle.hostcalls.specs.Calls.{opening, openOf, outcome, readOf, next, nextOf};
 use chip::Chip;
 use nextrecord::next_on;
+use numbers::BAD_SESSION;
 use reader::open_on;
 use reader::read_on;
 use sessionbytes::SIZE;
@@ -52,7 +53,7 @@ pub fn read(
         return answer.number as u32;
     }
     *count = 0;
-    1
+    BAD_SESSION as u32
 }
 
 // Reads samples up to and with the first that gives a record, or all of them, and says how many it read. A refusal says that none
@@ -82,5 +83,5 @@ pub fn next_record(
     }
     *count = 0;
     *taken = 0;
-    1
+    BAD_SESSION as u32
 }

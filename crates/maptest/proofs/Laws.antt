@@ -13,9 +13,11 @@ use Rattle.bits.proofs.Cases.{each, and-left, and-right, every-true}
 use Rattle.chip.specs.declared.Chip.{Chip}
 use Rattle.chip.specs.declared.Chip.the-variants.{Newer, Older}
 use Rattle.chip.specs.declared.Part.{Part}
+use Rattle.chip.specs.Registers.{transferRegister, olderTransfer}
 use Rattle.chip.specs.Chip.{transferPlace, topGood}
 use Rattle.regmap.specs.Format.{lengthOf, versionOf, countOf, leastCount, mostCount, lengthSize, sizeOf, registerAt, SameRegisters, control}
 use Rattle.maptest.specs.MapTest.{formTests, Formed, kindRule, kindsOf, placeRule, entryGood, entriesGood, furtherTests, rulesGood, mapNumber, topFits}
+use Rattle.maptest.specs.MapTest.{productLowPlace, productHighPlace, vendorLowPlace, vendorHighPlace, scratchPlace}
 use Rattle.maptest.proofs.PlaceKinds.{controlPlace, placed-control}
 use Rattle.maptest.proofs.Entries.{entries-each}
 
@@ -79,8 +81,8 @@ module _ (c : Chip) (m : List ℕ) (good : mapNumber c m ≡ 0) where
 
 -- the register that asks for a transfer is a control register
 pub control-transfer : (c : Chip) (m : List ℕ) → mapNumber c m ≡ 0 → registerAt m (transferPlace c) .kind ≡ control
-control-transfer Newer m good = control-at Newer m good 0x000F (omega arith) refl
-control-transfer (Older part top) m good = control-at (Older part top) m good 0x0005 (omega arith) refl
+control-transfer Newer m good = control-at Newer m good transferRegister (omega arith) refl
+control-transfer (Older part top) m good = control-at (Older part top) m good olderTransfer (omega arith) refl
 
 -- the top of an older part that it can have
 pub top-bounds : (part : Part) (top : ℕ) → topGood (Older part top) ≡ true → (0x000F ≤ top) × (top ≤ 0x1FFF)
@@ -109,7 +111,14 @@ module _ (c : Chip) (m m′ : List ℕ) (s : SameRegisters m m′) where
   entries-same kinds a (suc k) = rw (s .same-entry a, entries-same kinds (a + 1) k)
 
   further-same : (c : Chip) → furtherTests c m ≡ furtherTests c m′
-  further-same Newer = rw (s .same-entry 0x000C, s .same-entry 0x000D, s .same-entry 0x0004, s .same-entry 0x0005, s .same-entry 0x000A)
+  further-same Newer =
+      rw (
+        s .same-entry vendorLowPlace,
+        s .same-entry vendorHighPlace,
+        s .same-entry productLowPlace,
+        s .same-entry productHighPlace,
+        s .same-entry scratchPlace,
+      )
   further-same (Older part top) = refl
 
   pub good-alike : mapNumber c m ≡ 0 → every (formTests m′) ≡ true → mapNumber c m′ ≡ 0

@@ -12,6 +12,7 @@ use Rattle.bits.proofs.Tables.{agree-below}
 use Rattle.chip.specs.declared.Part.the-variants.{Ad9557, Ad9508}
 use Rattle.chip.specs.declared.Chip.{Chip}
 use Rattle.chip.specs.declared.Chip.the-variants.{Newer, Older}
+use Rattle.chip.specs.Registers.{configurationA, configurationB, transferRegister, serialControl, readbackControl, olderTransfer}
 use Rattle.chip.specs.Chip.{partReadsBuffer}
 use Rattle.regmap.specs.Format.{control}
 use Rattle.maptest.specs.MapTest.{free, placeKinds, olderKinds, kindsOf, asAsked, placeRule}
@@ -37,8 +38,8 @@ asksControl kinds a = eqb (getD kinds a free) control
 
 -- the places where control stands
 abbrev pub controlPlace : Chip → ℕ → Bool
-controlPlace Newer a = eqb a 0x0000 || (eqb a 0x0001 || eqb a 0x000F)
-controlPlace (Older part top) a = eqb a 0x0000 || (eqb a 0x0005 || (eqb a 0x0004 && partReadsBuffer part))
+controlPlace Newer a = eqb a configurationA || (eqb a configurationB || eqb a transferRegister)
+controlPlace (Older part top) a = eqb a serialControl || (eqb a olderTransfer || (eqb a readbackControl && partReadsBuffer part))
 
 -- a table and a test of places: they agree everywhere if they do at its places, and the test fails beyond
 by-table :
@@ -56,15 +57,15 @@ by-table kinds place inside outside a = go (ltb a (length kinds)) refl
 asks-control : (c : Chip) (a : ℕ) → asksControl (kindsOf c) a ≡ controlPlace c a
 asks-control Newer =
     by-table placeKinds (controlPlace Newer) (agree-below (asksControl placeKinds) (controlPlace Newer) 16 refl)
-    (λ a h. rw (ne-eqb a 0x0000 (λ z. omega arith), ne-eqb a 0x0001 (λ z. omega arith), ne-eqb a 0x000F (λ z. omega arith)))
+    (λ a h. rw (ne-eqb a configurationA (λ z. omega arith), ne-eqb a configurationB (λ z. omega arith), ne-eqb a transferRegister (λ z. omega arith)))
 asks-control (Older Ad9557 top) =
     by-table (olderKinds Ad9557) (controlPlace (Older Ad9557 top))
     (agree-below (asksControl (olderKinds Ad9557)) (controlPlace (Older Ad9557 top)) 6 refl)
-    (λ a h. rw (ne-eqb a 0x0000 (λ z. omega arith), ne-eqb a 0x0005 (λ z. omega arith), ne-eqb a 0x0004 (λ z. omega arith)))
+    (λ a h. rw (ne-eqb a serialControl (λ z. omega arith), ne-eqb a olderTransfer (λ z. omega arith), ne-eqb a readbackControl (λ z. omega arith)))
 asks-control (Older Ad9508 top) =
     by-table (olderKinds Ad9508) (controlPlace (Older Ad9508 top))
     (agree-below (asksControl (olderKinds Ad9508)) (controlPlace (Older Ad9508 top)) 6 refl)
-    (λ a h. rw (ne-eqb a 0x0000 (λ z. omega arith), ne-eqb a 0x0005 (λ z. omega arith), ne-eqb a 0x0004 (λ z. omega arith)))
+    (λ a h. rw (ne-eqb a serialControl (λ z. omega arith), ne-eqb a olderTransfer (λ z. omega arith), ne-eqb a readbackControl (λ z. omega arith)))
 
 -- a kind that is as the place p asks is control where p is
 control-as-asked : (p k : ℕ) → asAsked p k ≡ true → eqb k control ≡ eqb p control

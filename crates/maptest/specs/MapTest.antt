@@ -6,6 +6,7 @@ use mathlib.Core.List.{List, [], _∷_}
 use lib.ListN.{length, getD}
 use lib.Dec.{eqb, leb}
 use Rattle.bits.specs.Tests.{every, unless}
+use Rattle.numbers.specs.Numbers.{done, badMapForm, badMapEntry, badTop}
 use Rattle.chip.specs.declared.Part.{Part}
 use Rattle.chip.specs.declared.Part.the-variants.{Ad9557, Ad9508}
 use Rattle.chip.specs.declared.Chip.{Chip}
@@ -84,19 +85,34 @@ unfoldable pub entriesGood : List ℕ → List ℕ → ℕ → ℕ → Bool
 entriesGood kinds m a zero = true
 entriesGood kinds m a (suc k) = entryGood kinds a (registerAt m a) && entriesGood kinds m (a + 1) k
 
--- the product number: 0x0004 low, 0x0005 high
+-- where the product number is: 0x0004 low, 0x0005 high
+abbrev pub productLowPlace : ℕ
+productLowPlace = 0x0004
+
+abbrev pub productHighPlace : ℕ
+productHighPlace = 0x0005
+
 abbrev pub productOf : List ℕ → ℕ
-productOf m = registerAt m 0x0005 .default * 256 + registerAt m 0x0004 .default
+productOf m = registerAt m productHighPlace .default * 256 + registerAt m productLowPlace .default
 
 abbrev pub productGood : List ℕ → Bool
 productGood m = not (eqb (productOf m) 0x0000) && not (eqb (productOf m) 0xFFFF)
 
--- the vendor bytes, and the mask of scratch
+-- the vendor bytes at 0x000C and 0x000D, and scratch at 0x000A with its mask
+abbrev pub vendorLowPlace : ℕ
+vendorLowPlace = 0x000C
+
 abbrev pub vendorLow : ℕ
 vendorLow = 0x56
 
+abbrev pub vendorHighPlace : ℕ
+vendorHighPlace = 0x000D
+
 abbrev pub vendorHigh : ℕ
 vendorHigh = 0x04
+
+abbrev pub scratchPlace : ℕ
+scratchPlace = 0x000A
 
 abbrev pub scratchMask : ℕ
 scratchMask = 0xFF
@@ -104,10 +120,10 @@ scratchMask = 0xFF
 -- The further rules on single bytes: the vendor bytes, the product number, and the mask of scratch. The older parts have none.
 abbrev pub furtherTests : Chip → List ℕ → List Bool
 furtherTests Newer m =
-    eqb (registerAt m 0x000C .default) vendorLow
-    ∷ eqb (registerAt m 0x000D .default) vendorHigh
+    eqb (registerAt m vendorLowPlace .default) vendorLow
+    ∷ eqb (registerAt m vendorHighPlace .default) vendorHigh
     ∷ productGood m
-    ∷ eqb (registerAt m 0x000A .mask) scratchMask
+    ∷ eqb (registerAt m scratchPlace .mask) scratchMask
     ∷ []
 furtherTests (Older part top) m = []
 
@@ -118,9 +134,9 @@ rulesGood c m = entriesGood (kindsOf c) m 0 (countOf m) && every (furtherTests c
 -- The number of a map on a chip, whatever the top: the lowest that applies.
 unfoldable pub mapNumber : Chip → List ℕ → ℕ
 mapNumber c m =
-    unless (every (formTests m)) 2
-    (unless (rulesGood c m) 3
-    0)
+    unless (every (formTests m)) badMapForm
+    (unless (rulesGood c m) badMapEntry
+    done)
 
 -- Document 02, Ask 1: the top of an older part is one that it can have, and n less 1. A newer chip has none.
 abbrev pub topFits : Chip → List ℕ → Bool
@@ -130,6 +146,6 @@ topFits (Older part top) m = topGood (Older part top) && eqb top (countOf m - 1)
 -- The number of the map test: 2, 3, and then 12.
 unfoldable pub mapTestNumber : Chip → List ℕ → ℕ
 mapTestNumber c m =
-    unless (eqb (mapNumber c m) 0) (mapNumber c m)
-    (unless (topFits c m) 12
-    0)
+    unless (eqb (mapNumber c m) done) (mapNumber c m)
+    (unless (topFits c m) badTop
+    done)

@@ -14,11 +14,20 @@ mod places;
 use chip::Chip;
 use chip::Part;
 use chip::top_good;
+use numbers::BAD_MAP_ENTRY;
+use numbers::BAD_MAP_FORM;
+use numbers::BAD_TOP;
+use numbers::DONE;
 use places::AD9508_KINDS;
 use places::AD9557_KINDS;
 pub use places::FREE;
 use places::PLACE_KINDS;
+use places::PRODUCT_HIGH_PLACE;
+use places::PRODUCT_LOW_PLACE;
 pub use places::SCRATCH_MASK;
+pub use places::SCRATCH_PLACE;
+pub use places::VENDOR_HIGH_PLACE;
+pub use places::VENDOR_LOW_PLACE;
 use places::place_good;
 pub use places::place_kind;
 use regmap::BLANK;
@@ -133,8 +142,8 @@ pub fn product_good(map: &[u8]) -> bool
     requires { ⌜ Formed (now map) ⌝ }
     ensures { λ r. ⌜ r ≡ productGood (now (map .entry)) ⌝ }
 {
-    let low = register_at(map, 0x0004).default as u16;
-    let high = register_at(map, 0x0005).default as u16;
+    let low = register_at(map, PRODUCT_LOW_PLACE).default as u16;
+    let high = register_at(map, PRODUCT_HIGH_PLACE).default as u16;
     let product = high * 256 + low;
     (product != 0x0000) & (product != 0xFFFF)
 }
@@ -145,10 +154,10 @@ fn further_good(map: &[u8]) -> bool
     ensures { λ r. ⌜ r ≡ every (furtherTests Newer (now (map .entry))) ⌝ }
 {
     let vendor = b"\x56\x04";
-    (register_at(map, 0x000C).default == vendor[0])
-        & (register_at(map, 0x000D).default == vendor[1])
+    (register_at(map, VENDOR_LOW_PLACE).default == vendor[0])
+        & (register_at(map, VENDOR_HIGH_PLACE).default == vendor[1])
         & product_good(map)
-        & (register_at(map, 0x000A).mask == SCRATCH_MASK)
+        & (register_at(map, SCRATCH_PLACE).mask == SCRATCH_MASK)
 }
 
 // Whether the entries and the further rules are good on a chip.
@@ -168,11 +177,11 @@ pub fn map_number(chip: Chip, map: &[u8]) -> u8
 {
     if form_good(map) {
         if rules_good(chip, map) {
-            return 0;
+            return DONE;
         }
-        return 3;
+        return BAD_MAP_ENTRY;
     }
-    2
+    BAD_MAP_FORM
 }
 
 // Whether the top of an older part is one that it can have, and the last address of the map.
@@ -206,11 +215,11 @@ pub fn map_test_older(part: Part, top: u64, map: &[u8]) -> u8
         top: top,
     };
     let number = map_number(chip, map);
-    if number != 0 {
+    if number != DONE {
         return number;
     }
     if top_fits(chip, map) {
-        return 0;
+        return DONE;
     }
-    12
+    BAD_TOP
 }

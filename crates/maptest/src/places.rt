@@ -9,6 +9,19 @@ use regmap::READ_ONLY;
 // A place where any kind but control may stand.
 pub const FREE: u8 = 9;
 
+// Where a newer chip has its product number.
+pub const PRODUCT_LOW_PLACE: usize = 0x0004;
+
+pub const PRODUCT_HIGH_PLACE: usize = 0x0005;
+
+// Where it has the vendor bytes.
+pub const VENDOR_LOW_PLACE: usize = 0x000C;
+
+pub const VENDOR_HIGH_PLACE: usize = 0x000D;
+
+// Where it has scratch.
+pub const SCRATCH_PLACE: usize = 0x000A;
+
 // The mask of scratch.
 pub const SCRATCH_MASK: u8 = 0xFF;
 

@@ -13,6 +13,7 @@ use Rattle.regmap.specs.Format.{versionOf, countOf, headSize, flagsOf, headOf, 
 use Rattle.regmap.proofs.Laws.{head-bounds}
 use Rattle.chip.specs.declared.Chip.the-variants.{Newer}
 use Rattle.maptest.specs.MapTest.{formTests, Formed, placeKinds, entriesGood, productGood, furtherTests, mapNumber}
+use Rattle.maptest.specs.MapTest.{productLowPlace, productHighPlace, vendorLowPlace, vendorHighPlace, scratchPlace}
 use Rattle.mend.specs.Entry.{entry, mendedKind, cleared, withFixedBytes, mendedAt}
 use Rattle.mend.specs.Mend.{mendedFrom, mendedMap}
 use Rattle.mend.proofs.Behind.{behind, entryIn, head-size, head-byte, same-version, same-head, same-count, entry-behind}
@@ -89,11 +90,11 @@ module _ (m : List ℕ) (f : Formed m) where
   unfolding every mendedAt mendedKind cleared withFixedBytes
   further-good p =
       rw (
-        mended-register 0x000C (omega (arith, f .least)),
-        mended-register 0x000D (omega (arith, f .least)),
-        mended-register 0x0005 (omega (arith, f .least)),
-        mended-register 0x0004 (omega (arith, f .least)),
-        mended-register 0x000A (omega (arith, f .least)),
+        mended-register vendorLowPlace (omega (arith, f .least)),
+        mended-register vendorHighPlace (omega (arith, f .least)),
+        mended-register productHighPlace (omega (arith, f .least)),
+        mended-register productLowPlace (omega (arith, f .least)),
+        mended-register scratchPlace (omega (arith, f .least)),
         p,
       )
 

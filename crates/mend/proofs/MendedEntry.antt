@@ -9,7 +9,8 @@ use Rattle.bits.proofs.Cases.{each, and-left, and-right}
 use Rattle.bits.proofs.Tables.{allBelow, below}
 use Rattle.regmap.specs.declared.Entry.{Entry}
 use Rattle.regmap.specs.Format.{blank, buffered, control}
-use Rattle.maptest.specs.MapTest.{kindRule, placeKind, placeRule, entryGood, free, placeKinds, vendorLow, vendorHigh, scratchMask}
+use Rattle.maptest.specs.MapTest.{kindRule, placeKind, placeRule, entryGood, free, placeKinds}
+use Rattle.maptest.specs.MapTest.{vendorLowPlace, vendorLow, vendorHighPlace, vendorHigh, scratchPlace, scratchMask}
 use Rattle.maptest.proofs.PlaceKinds.{beyond-table}
 use Rattle.mend.specs.Entry.{entry, mendedKind, cleared, withFixedBytes, mendedAt}
 
@@ -47,9 +48,9 @@ unfolding entryGood placeRule withFixedBytes
 good-beyond a k mask default h l =
     rw (
       beyond-table placeKinds a h,
-      ne-eqb a 0x000A (λ e. omega arith),
-      ne-eqb a 0x000C (λ e. omega arith),
-      ne-eqb a 0x000D (λ e. omega arith),
+      ne-eqb a scratchPlace (λ e. omega arith),
+      ne-eqb a vendorLowPlace (λ e. omega arith),
+      ne-eqb a vendorHighPlace (λ e. omega arith),
     )
     (good-free k mask default l)
 
@@ -117,16 +118,16 @@ clear-kept (suc (suc (suc (suc (suc j))))) mask default h =
 
 -- the further rules on single bytes, as they bear on one address
 pub record Further (a : ℕ) (e : Entry) : Type 0 where
-  pub scratch : a ≡ 0x000A → e .mask ≡ scratchMask
-  pub vendor-low : a ≡ 0x000C → e .default ≡ vendorLow
-  pub vendor-high : a ≡ 0x000D → e .default ≡ vendorHigh
+  pub scratch : a ≡ scratchPlace → e .mask ≡ scratchMask
+  pub vendor-low : a ≡ vendorLowPlace → e .default ≡ vendorLow
+  pub vendor-high : a ≡ vendorHighPlace → e .default ≡ vendorHigh
 
 fixed-kept : (a : ℕ) (e : Entry) → Further a e → withFixedBytes a e ≡ e
 unfolding withFixedBytes
 fixed-kept a e f =
-    each (λ (x : Entry). x ≡ e) (eqb a 0x000A) (λ t. ap (λ (b : ℕ). entry (e .kind) b (e .default)) (sym (f .scratch (eqb-true a 0x000A t))))
-    (λ s. each (λ (x : Entry). x ≡ e) (eqb a 0x000C) (λ t. ap (λ (b : ℕ). entry (e .kind) (e .mask) b) (sym (f .vendor-low (eqb-true a 0x000C t))))
-    (λ s. each (λ (x : Entry). x ≡ e) (eqb a 0x000D) (λ t. ap (λ (b : ℕ). entry (e .kind) (e .mask) b) (sym (f .vendor-high (eqb-true a 0x000D t))))
+    each (λ (x : Entry). x ≡ e) (eqb a scratchPlace) (λ t. ap (λ (b : ℕ). entry (e .kind) b (e .default)) (sym (f .scratch (eqb-true a scratchPlace t))))
+    (λ s. each (λ (x : Entry). x ≡ e) (eqb a vendorLowPlace) (λ t. ap (λ (b : ℕ). entry (e .kind) (e .mask) b) (sym (f .vendor-low (eqb-true a vendorLowPlace t))))
+    (λ s. each (λ (x : Entry). x ≡ e) (eqb a vendorHighPlace) (λ t. ap (λ (b : ℕ). entry (e .kind) (e .mask) b) (sym (f .vendor-high (eqb-true a vendorHighPlace t))))
     (λ s. refl)))
 
 pub good-kept : (a : ℕ) (e : Entry) → entryGood placeKinds a e ≡ true → Further a e → mendedAt a e ≡ e

@@ -12,7 +12,8 @@ use Rattle.bits.specs.Tests.{every}
 use Rattle.bits.proofs.Cases.{and-right, every-true}
 use Rattle.regmap.specs.Format.{countOf, registerAt}
 use Rattle.chip.specs.declared.Chip.the-variants.{Newer}
-use Rattle.maptest.specs.MapTest.{Formed, placeKinds, entriesGood, furtherTests, vendorLow, vendorHigh, scratchMask, mapNumber}
+use Rattle.maptest.specs.MapTest.{Formed, placeKinds, entriesGood, furtherTests, mapNumber}
+use Rattle.maptest.specs.MapTest.{vendorLowPlace, vendorLow, vendorHighPlace, vendorHigh, scratchPlace, scratchMask}
 use Rattle.maptest.proofs.Laws.{formed, passed, good-entry}
 use Rattle.mend.specs.Entry.{mendedAt}
 use Rattle.mend.specs.Mend.{listedSize, mendedMap, alteredAt, alteredFrom, alteredOf, mendNumber, Mending, mending, mendOf}
@@ -68,9 +69,9 @@ further : (m : List ℕ) (a : ℕ) → every (furtherTests Newer m) ≡ true →
 further m a t =
     let u = every-true (furtherTests Newer m) t in
     record {
-      scratch = λ e. rw e (eqb-true (registerAt m 0x000A .mask) scratchMask (u .1 .1 .1 .0));
-      vendor-low = λ e. rw e (eqb-true (registerAt m 0x000C .default) vendorLow (u .0));
-      vendor-high = λ e. rw e (eqb-true (registerAt m 0x000D .default) vendorHigh (u .1 .0));
+      scratch = λ e. rw e (eqb-true (registerAt m scratchPlace .mask) scratchMask (u .1 .1 .1 .0));
+      vendor-low = λ e. rw e (eqb-true (registerAt m vendorLowPlace .default) vendorLow (u .0));
+      vendor-high = λ e. rw e (eqb-true (registerAt m vendorHighPlace .default) vendorHigh (u .1 .0));
     }
 
 module _ (m : List ℕ) (good : mapNumber Newer m ≡ 0) where

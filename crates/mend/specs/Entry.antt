@@ -4,7 +4,7 @@ use mathlib.Core.Bool.{Bool, cond, _&&_, _||_}
 use lib.Dec.{eqb, leb}
 use Rattle.regmap.specs.declared.Entry.{Entry}
 use Rattle.regmap.specs.Format.{blank, readOnly, buffered, control}
-use Rattle.maptest.specs.MapTest.{free, placeKind, vendorLow, vendorHigh, scratchMask}
+use Rattle.maptest.specs.MapTest.{free, placeKind, vendorLowPlace, vendorLow, vendorHighPlace, vendorHigh, scratchPlace, scratchMask}
 
 abbrev pub entry : ℕ → ℕ → ℕ → Entry
 entry kind mask default = record { kind = kind; mask = mask; default = default }
@@ -23,9 +23,9 @@ cleared e =
 -- Single bytes that document 01 fixes: the mask of scratch, and the vendor bytes.
 unfoldable pub withFixedBytes : ℕ → Entry → Entry
 withFixedBytes a e =
-    cond (eqb a 0x000A) (entry (e .kind) scratchMask (e .default))
-    (cond (eqb a 0x000C) (entry (e .kind) (e .mask) vendorLow)
-    (cond (eqb a 0x000D) (entry (e .kind) (e .mask) vendorHigh)
+    cond (eqb a scratchPlace) (entry (e .kind) scratchMask (e .default))
+    (cond (eqb a vendorLowPlace) (entry (e .kind) (e .mask) vendorLow)
+    (cond (eqb a vendorHighPlace) (entry (e .kind) (e .mask) vendorHigh)
     e))
 
 -- The entry at an address, mended: its kind first, then what that kind asks, then the single bytes. All else is kept.

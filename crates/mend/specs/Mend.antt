@@ -8,6 +8,7 @@ use lib.Dec.{eqb, leb}
 use Rattle.bits.specs.Tests.{every, unless}
 use Rattle.bits.specs.Buffer.{filled, Put}
 use Rattle.bits.specs.Bytes.{wordBytes}
+use Rattle.numbers.specs.Numbers.{done, badMapForm, shortRecords, badProduct}
 use Rattle.regmap.specs.declared.Entry.{Entry}
 use Rattle.regmap.specs.Format.{countOf, headOf, registerAt}
 use Rattle.maptest.specs.MapTest.{formTests, productGood}
@@ -46,10 +47,10 @@ alteredOf m = alteredFrom m 0 (countOf m)
 -- Number 2 as before; 18, after 2, for a product number of 0x0000 or 0xFFFF; 6, after 18, for a list that does not fit.
 unfoldable pub mendNumber : List ℕ → ℕ → ℕ
 mendNumber m room =
-    unless (every (formTests m)) 2
-    (unless (productGood m) 18
-    (unless (leb (length (alteredOf m)) room) 6
-    0))
+    unless (every (formTests m)) badMapForm
+    (unless (productGood m) badProduct
+    (unless (leb (length (alteredOf m)) room) shortRecords
+    done))
 
 -- what a call that is not refused does: the map is mended, and the list put at the start of its room
 pub record MendedEntries (m list : List ℕ) (next : ℕ) (m′ list′ : List ℕ) : Type 0 where
@@ -69,6 +70,6 @@ mending number count map list = record { number = number; count = count; map = m
 -- A call of mending, on a lent map and a lent list. A refusal leaves both as they were.
 unfoldable pub mendOf : List ℕ → List ℕ → Mending
 mendOf m list =
-    cond (eqb (mendNumber m (length list)) 0)
-    (mending 0 (length (alteredOf m)) (mendedMap m) (filled (alteredOf m) list))
+    cond (eqb (mendNumber m (length list)) done)
+    (mending done (length (alteredOf m)) (mendedMap m) (filled (alteredOf m) list))
     (mending (mendNumber m (length list)) 0 m list)

@@ -4,6 +4,9 @@ ghost use mathlib.Core.Bool.{not};
 ghost use Rattle.mend.specs.Entry.{mendedKind, cleared, withFixedBytes, mendedAt, sameEntry};
 use maptest::FREE;
 use maptest::SCRATCH_MASK;
+use maptest::SCRATCH_PLACE;
+use maptest::VENDOR_HIGH_PLACE;
+use maptest::VENDOR_LOW_PLACE;
 use maptest::place_kind;
 use regmap::BLANK;
 use regmap::BUFFERED;
@@ -53,21 +56,21 @@ fn with_fixed_bytes(address: usize, entry: Entry) -> Entry
     let vendor = b"\x56\x04";
     let low = vendor[0];
     let high = vendor[1];
-    if address == 0x000A {
+    if address == SCRATCH_PLACE {
         return Entry {
             kind: entry.kind,
             mask: SCRATCH_MASK,
             default: entry.default,
         };
     }
-    if address == 0x000C {
+    if address == VENDOR_LOW_PLACE {
         return Entry {
             kind: entry.kind,
             mask: entry.mask,
             default: low,
         };
     }
-    if address == 0x000D {
+    if address == VENDOR_HIGH_PLACE {
         return Entry {
             kind: entry.kind,
             mask: entry.mask,

@@ -14,6 +14,10 @@ use entry::is_altered;
 use entry::mended;
 use maptest::form_good;
 use maptest::product_good;
+use numbers::BAD_MAP_FORM;
+use numbers::BAD_PRODUCT;
+use numbers::DONE;
+use numbers::SHORT_RECORDS;
 use regmap::ENTRY_SIZE;
 use regmap::Entry;
 use regmap::count;
@@ -62,13 +66,13 @@ fn number_of(map: &[u8], room: usize) -> u8
     if form_good(map) {
         if product_good(map) {
             if room < list_length(map) {
-                return 6;
+                return SHORT_RECORDS;
             }
-            return 0;
+            return DONE;
         }
-        return 18;
+        return BAD_PRODUCT;
     }
-    2
+    BAD_MAP_FORM
 }
 
 // Puts an entry, if mending alters it, at a place of the list; the place after it.
@@ -121,10 +125,10 @@ pub fn mend(map: &mut [u8], list: &mut [u8]) -> Mended
     ensures { λ r. ⌜ mending (r .number) (r .length) (now (map .exit)) (now (list .exit)) ≡ mendOf (now (map .entry)) (now (list .entry)) ⌝ }
 {
     let number = number_of(map, list.len());
-    if number == 0 {
+    if number == DONE {
         let length = mend_entries(map, list);
         return Mended {
-            number: 0,
+            number: DONE,
             length: length,
         };
     }

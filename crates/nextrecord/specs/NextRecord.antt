@@ -6,6 +6,7 @@ use lib.ListN.{length, take}
 use lib.Dec.{eqb, leb}
 use Rattle.bits.specs.Tests.{unless}
 use Rattle.sizes.specs.Sizes.{recordSize}
+use Rattle.numbers.specs.Numbers.{done, badSession, badBank, badSamples, shortRecords, badTop, badWords}
 use Rattle.maptest.specs.MapTest.{mapNumber, topFits}
 use Rattle.chip.specs.declared.Chip.{Chip}
 use Rattle.session.specs.declared.Port.{Port}
@@ -29,20 +30,20 @@ firstOf c s xs = take (takenOf c s xs) xs
 -- Document 01, "Numbers given back": the reader's numbers before 6. 5 looks at all samples handed in.
 unfoldable pub samplesNumber : Chip → List ℕ → World → List ℕ → ℕ
 samplesNumber c m w samples =
-    unless (soundSession c (w .session)) 1
-    (unless (eqb (mapNumber c m) 0) (mapNumber c m)
-    (unless (banksFit m (w .banks)) 4
-    (unless (topFits c m) 12
-    (unless (wordsFit m (w .touched)) 16
-    (unless (leb (length samples) 65536 && samplesGood samples) 5
-    0)))))
+    unless (soundSession c (w .session)) badSession
+    (unless (eqb (mapNumber c m) done) (mapNumber c m)
+    (unless (banksFit m (w .banks)) badBank
+    (unless (topFits c m) badTop
+    (unless (wordsFit m (w .touched)) badWords
+    (unless (leb (length samples) 65536 && samplesGood samples) badSamples
+    done)))))
 
 -- The number of the call: 6 looks only at the record of the samples that are read.
 unfoldable pub nextNumber : Chip → List ℕ → World → List ℕ → ℕ → ℕ
 nextNumber c m w samples room =
-    unless (eqb (samplesNumber c m w samples) 0) (samplesNumber c m w samples)
-    (unless (leb (recordSize * recordCount c (w .session .port) (firstOf c (w .session .port) samples)) room) 6
-    0)
+    unless (eqb (samplesNumber c m w samples) done) (samplesNumber c m w samples)
+    (unless (leb (recordSize * recordCount c (w .session .port) (firstOf c (w .session .port) samples)) room) shortRecords
+    done)
 
 -- what the call leaves: what a call of the reader leaves, and how many samples were read
 pub record Next : Type 0 where
@@ -55,6 +56,6 @@ next o taken = record { outcome = o; taken = taken }
 -- The call is `read` of just the samples that are read. A refusal leaves all as it was, and no sample is read.
 unfoldable pub nextOf : Chip → List ℕ → World → List ℕ → List ℕ → Next
 nextOf c m w samples records =
-    cond (eqb (nextNumber c m w samples (length records)) 0)
+    cond (eqb (nextNumber c m w samples (length records)) done)
     (next (readOf c m w (firstOf c (w .session .port) samples) records) (takenOf c (w .session .port) samples))
     (next (outcome (nextNumber c m w samples (length records)) w 0 records) 0)

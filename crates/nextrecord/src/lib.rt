@@ -14,6 +14,9 @@ ghost use Rattle.nextrecord.specs.Contracts.{Found};
 use chip::Chip;
 use chip::Part;
 use maptest::map_number;
+use numbers::BAD_SESSION;
+use numbers::DONE;
+use numbers::SHORT_RECORDS;
 use records::records_in;
 use refusals::read_refusal;
 use run::run_samples;
@@ -59,13 +62,13 @@ fn samples_refusal(
     ensures { λ r. ⌜ r ≡ samplesNumber chip (now (map .entry)) (world session (now (active .entry)) (now (buffer .entry)) (now (words .entry))) (now (samples .entry)) ⌝ }
 {
     let refused = map_number(chip, map);
-    if refused == 0 {
+    if refused == DONE {
         return read_refusal(chip, map, session, active, buffer, words, samples, ROOM);
     }
     if sound(chip, session) {
         return refused;
     }
-    1
+    BAD_SESSION
 }
 
 // How many samples there are up to and with the first that gives a record, or all of them; and how many records they give.
@@ -111,13 +114,13 @@ pub fn next_on(
     ensures { λ r. ⌜ next (outcome (r .number) (world (r .session) (now (active .exit)) (now (buffer .exit)) (now (words .exit))) (r .count) (now (records .exit))) (r .taken) ≡ nextOf chip (now (map .entry)) (world session (now (active .entry)) (now (buffer .entry)) (now (words .entry))) (now (samples .entry)) (now (records .entry)) ⌝ }
 {
     let refused = samples_refusal(chip, map, session, active, buffer, words, samples);
-    if refused != 0 {
+    if refused != DONE {
         return refusal(refused, session);
     }
     let port = session.port;
     let first = first_record(chip, port, samples);
     if records.len() < RECORD * first.count {
-        return refusal(6, session);
+        return refusal(SHORT_RECORDS, session);
     }
     let read = &samples[..first.at];
     let passed = run_samples(
@@ -133,7 +136,7 @@ pub fn next_on(
     );
     let after = passed.session;
     NextRecord {
-        number: 0,
+        number: DONE,
         session: after,
         count: passed.size / RECORD,
         taken: first.at,

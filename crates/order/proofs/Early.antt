@@ -8,6 +8,7 @@ use native.Mathlib.Numerals.{add-one}
 use lib.ListN.{length, drop}
 use lib.Seq.{drop-cons}
 use lib.Dec.{eqb}
+use Rattle.chip.specs.Registers.{configurationA, configurationB}
 use Rattle.settings.specs.Settings.{nextAddress}
 use Rattle.order.specs.Order.{runFrom}
 use Rattle.order.specs.Number.{configuresEarly}
@@ -15,7 +16,7 @@ use Rattle.settings.proofs.Laws.{next-lt}
 
 -- whether the addresses from i on configure early: by the address of byte i where it is not the last, and those after it
 early-next : (up : Bool) (a : ℕ) (vs : List ℕ) (i : ℕ) → i + 1 < length vs
-    → configuresEarly (runFrom up a (drop i vs)) ≡ (eqb a 0x0000 || eqb a 0x0001 || configuresEarly (runFrom up (nextAddress up a) (drop (i + 1) vs)))
+    → configuresEarly (runFrom up a (drop i vs)) ≡ (eqb a configurationA || eqb a configurationB || configuresEarly (runFrom up (nextAddress up a) (drop (i + 1) vs)))
 unfolding configuresEarly runFrom
 early-next up a vs i h =
     let h0 : i < length vs = omega arith in
@@ -38,10 +39,10 @@ pub record Looking (up : Bool) (start : ℕ) (vs : List ℕ) (a i : ℕ) : Type 
   pub rest : configuresEarly (runFrom up a (drop i vs)) ≡ configuresEarly (runFrom up start vs)
 
 module _ {up : Bool} {start : ℕ} {vs : List ℕ} {a i : ℕ} (k : Looking up start vs a i) where
-  pub found : i + 1 < length vs → (eqb a 0x0000 || eqb a 0x0001) ≡ true → true ≡ configuresEarly (runFrom up start vs)
+  pub found : i + 1 < length vs → (eqb a configurationA || eqb a configurationB) ≡ true → true ≡ configuresEarly (runFrom up start vs)
   found h t = sym (early-next up a vs i h ∙ rw t) ∙ k .rest
 
-  pub passed : i + 1 < length vs → (eqb a 0x0000 || eqb a 0x0001) ≡ false → Looking up start vs (nextAddress up a) (i + 1)
+  pub passed : i + 1 < length vs → (eqb a configurationA || eqb a configurationB) ≡ false → Looking up start vs (nextAddress up a) (i + 1)
   passed h t = record { within = omega arith; near = next-lt up a; rest = sym (early-next up a vs i h ∙ rw t) ∙ k .rest }
 
   pub missed : length vs ≤ i + 1 → false ≡ configuresEarly (runFrom up start vs)

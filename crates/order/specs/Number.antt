@@ -5,6 +5,8 @@ use mathlib.Core.List.{List, [], _∷_}
 use lib.ListN.{length}
 use lib.Dec.{eqb, leb}
 use Rattle.bits.specs.Tests.{every, unless}
+use Rattle.numbers.specs.Numbers.{done, badOrder, badCount, badStart, badSingle, shortOut, badTop}
+use Rattle.chip.specs.Registers.{configurationA, configurationB}
 use Rattle.chip.specs.Chip.{isNewer, topGood}
 use Rattle.chip.specs.declared.Chip.{Chip}
 use Rattle.chip.specs.declared.Chip.the-variants.{Newer, Older}
@@ -13,7 +15,7 @@ use Rattle.order.specs.Samples.{samplesOf}
 
 -- 0x0000 or 0x0001
 abbrev pub isConfiguration : RunByte → Bool
-isConfiguration p = eqb (p .address) 0x0000 || eqb (p .address) 0x0001
+isConfiguration p = eqb (p .address) configurationA || eqb (p .address) configurationB
 
 -- 0x0000 or 0x0001 anywhere but last
 unfoldable pub configuresEarly : List RunByte → Bool
@@ -42,10 +44,10 @@ addressesGood (Older part top) o = upTo top (runBytes (Older part top) o)
 -- The number of the sender: the lowest that applies, but 12, which only the older chips have, comes first.
 unfoldable pub sendNumber : Chip → Order → ℕ → ℕ
 sendNumber c o room =
-    unless (topGood c) 12
-    (unless (leb (o .direction) 1 && leb (o .settings) (mostSettings c)) 7
-    (unless (every (countTests o)) 8
-    (unless (addressesGood c o) 9
-    (unless (not (isSingle c o && not (isRead o) && configuresEarly (runBytes c o))) 10
-    (unless (leb (length (samplesOf c o)) room) 11
-    0)))))
+    unless (topGood c) badTop
+    (unless (leb (o .direction) 1 && leb (o .settings) (mostSettings c)) badOrder
+    (unless (every (countTests o)) badCount
+    (unless (addressesGood c o) badStart
+    (unless (not (isSingle c o && not (isRead o) && configuresEarly (runBytes c o))) badSingle
+    (unless (leb (length (samplesOf c o)) room) shortOut
+    done)))))

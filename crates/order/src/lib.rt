@@ -10,9 +10,18 @@ ghost use Rattle.chip.specs.Chip.{topGood};
 ghost use Rattle.order.specs.Order.{withData, goesUp, isSingle, runFrom};
 ghost use Rattle.order.specs.Number.{configuresEarly, countTests, mostSettings, upTo, addressesGood, sendNumber};
 use bits::bit_at;
+use chip::CONFIGURATION_A;
+use chip::CONFIGURATION_B;
 use chip::Chip;
 use chip::is_newer;
 use chip::top_good;
+use numbers::BAD_COUNT;
+use numbers::BAD_ORDER;
+use numbers::BAD_SINGLE;
+use numbers::BAD_START;
+use numbers::BAD_TOP;
+use numbers::DONE;
+use numbers::SHORT_OUT;
 use settings::next_address;
 
 // An order as it is given, with its data lent beside it: a direction, a settings number, a start address and a count.
@@ -105,7 +114,7 @@ fn configures_early(single_write: bool, ascending: bool, start: u16, data: &[u8]
     let mut address = start;
     let mut i: usize = 0;
     while i + 1 < data.len() {
-        if (address == 0x0000) | (address == 0x0001) {
+        if (address == CONFIGURATION_A) | (address == CONFIGURATION_B) {
             return true;
         }
         address = next_address(ascending, address);
@@ -131,24 +140,24 @@ pub fn number_of(chip: Chip, order: Order, data: &[u8], room: usize) -> u8
     ensures { λ r. ⌜ r ≡ sendNumber chip (withData order (now («data» .entry))) room ⌝ }
 {
     if !top_good(chip) {
-        return 12;
+        return BAD_TOP;
     }
     if !is_named(chip, order) {
-        return 7;
+        return BAD_ORDER;
     }
     if !count_fits(order, data) {
-        return 8;
+        return BAD_COUNT;
     }
     if !addresses_good(chip, order) {
-        return 9;
+        return BAD_START;
     }
     let single = is_single(chip, order);
     let single_write = single & (order.direction != 1);
     if configures_early(single_write, goes_up(chip, order), order.start as u16, data) {
-        return 10;
+        return BAD_SINGLE;
     }
     if room < sample_count(single, order.count as usize) {
-        return 11;
+        return SHORT_OUT;
     }
-    0
+    DONE
 }

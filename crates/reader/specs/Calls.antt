@@ -5,6 +5,7 @@ use mathlib.Core.List.{List}
 use lib.ListN.{length}
 use lib.Dec.{eqb}
 use Rattle.bits.specs.Buffer.{filled}
+use Rattle.numbers.specs.Numbers.{done}
 use Rattle.chip.specs.declared.Chip.{Chip}
 use Rattle.session.specs.declared.Session.{Session}
 use Rattle.soundness.specs.Opened.{openedSession}
@@ -23,7 +24,7 @@ opening number s b = record { number = number; session = s; banks = b }
 
 -- Opening always returns the opened session.
 unfoldable pub openOf : Chip → List ℕ → Banks → Opening
-openOf c m b = opening (openNumber c m b) openedSession (cond (eqb (openNumber c m b) 0) (defaultBanks m) b)
+openOf c m b = opening (openNumber c m b) openedSession (cond (eqb (openNumber c m b) done) (defaultBanks m) b)
 
 -- what a call of the reader leaves: the number, the session and the banks, how many records, and the record buffer
 pub record Outcome : Type 0 where
@@ -38,6 +39,6 @@ outcome number w count records = record { number = number; world = w; count = co
 -- A call of the reader of a chip, on a map, a session with its banks, samples, and a lent record buffer.
 unfoldable pub readOf : Chip → List ℕ → World → List ℕ → List ℕ → Outcome
 readOf c m w samples records =
-    cond (eqb (readNumber c m w samples (length records)) 0)
-    (outcome 0 (runOf c m w samples) (recordCount c (w .session .port) samples) (filled (recordsOf c m w samples) records))
+    cond (eqb (readNumber c m w samples (length records)) done)
+    (outcome done (runOf c m w samples) (recordCount c (w .session .port) samples) (filled (recordsOf c m w samples) records))
     (outcome (readNumber c m w samples (length records)) w 0 records)

@@ -11,6 +11,8 @@ ghost use Rattle.reader.specs.Calls.{opening, openOf, outcome, readOf};
 use chip::Chip;
 use chip::Part;
 use maptest::map_number;
+use numbers::BAD_SESSION;
+use numbers::DONE;
 use refusals::open_refusal;
 use refusals::read_refusal;
 use run::run_samples;
@@ -39,7 +41,7 @@ pub fn open_on(chip: Chip, map: &[u8], active: &mut [u8], buffer: &mut [u8]) -> 
 {
     let number = open_refusal(chip, map_number(chip, map), map, active, buffer);
     let session = opened();
-    if number == 0 {
+    if number == DONE {
         registers::reset(map, active, buffer);
     }
     Opened {
@@ -73,7 +75,7 @@ pub fn read_tested(
         samples,
         records.len(),
     );
-    if refused != 0 {
+    if refused != DONE {
         return Answer {
             number: refused,
             session: session,
@@ -93,7 +95,7 @@ pub fn read_tested(
     );
     let next = done.session;
     Answer {
-        number: 0,
+        number: DONE,
         session: next,
         count: done.size / RECORD,
     }
@@ -113,7 +115,7 @@ pub fn read_on(
     ensures { λ r. ⌜ outcome (r .number) (world (r .session) (now (active .exit)) (now (buffer .exit)) (now (words .exit))) (r .count) (now (records .exit)) ≡ readOf chip (now (map .entry)) (world session (now (active .entry)) (now (buffer .entry)) (now (words .entry))) (now (samples .entry)) (now (records .entry)) ⌝ }
 {
     let refused = map_number(chip, map);
-    if refused == 0 {
+    if refused == DONE {
         return read_tested(chip, map, session, active, buffer, words, samples, records);
     }
     if sound(chip, session) {
@@ -124,7 +126,7 @@ pub fn read_on(
         };
     }
     Answer {
-        number: 1,
+        number: BAD_SESSION,
         session: session,
         count: 0,
     }

@@ -12,16 +12,18 @@ use mir.Val.{boolByte}
 use Rattle.bits.specs.Bits.{bitAt, bitOf}
 use Rattle.bits.proofs.Cases.{each}
 use Rattle.sizes.specs.Sizes.{recordSize}
+use Rattle.chip.specs.Registers.{configurationB}
+use Rattle.settings.specs.Bits.{slowBit}
 use Rattle.writing.specs.declared.Written.{Written}
 use Rattle.records.specs.Records.{writeRecord, readRecord, abortRecord}
 use Rattle.records.specs.Slow.{asksSlow, slowIn}
 
 -- a write asks for slow by its address and its byte; a read or an abort never does
-pub write-asks : (a v : ℕ) (w : Written) → asksSlow (writeRecord a v w) ≡ (eqb a 0x0001 && bitAt v 4)
+pub write-asks : (a v : ℕ) (w : Written) → asksSlow (writeRecord a v w) ≡ (eqb a configurationB && bitAt v slowBit)
 unfolding asksSlow
 write-asks a v w =
     let address : a / 256 * 256 + a % 256 ≡ a = omega arith in
-    ap (λ (x : ℕ). eqb x 0x0001 && bitAt v 4) address
+    ap (λ (x : ℕ). eqb x configurationB && bitAt v slowBit) address
 
 pub read-asks-not : (a due line : ℕ) → asksSlow (readRecord a due line) ≡ false
 unfolding asksSlow

@@ -7,10 +7,12 @@ use lib.Dec.{eqb}
 use Rattle.bits.specs.Bits.{bitAt, bitOf}
 use Rattle.bits.specs.Bytes.{byteAt, wordAt}
 use Rattle.sizes.specs.Sizes.{recordSize}
+use Rattle.chip.specs.Registers.{configurationB}
+use Rattle.settings.specs.Bits.{slowBit}
 
 -- whether the record at the start of a list is a write to 0x0001 with bit 4 of the byte set
 unfoldable pub asksSlow : List ℕ → Bool
-asksSlow r = eqb (byteAt r 0) 1 && eqb (wordAt r 1) 0x0001 && bitAt (byteAt r 3) 4
+asksSlow r = eqb (byteAt r 0) 1 && eqb (wordAt r 1) configurationB && bitAt (byteAt r 3) slowBit
 
 -- how many of n records are
 unfoldable pub slowIn : ℕ → List ℕ → ℕ

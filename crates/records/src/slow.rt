@@ -6,6 +6,8 @@ ghost use Rattle.sizes.specs.Sizes.{recordSize};
 ghost use Rattle.records.specs.Slow.{asksSlow, slowOf};
 use crate::WRITE;
 use bits::bit_at;
+use chip::CONFIGURATION_B;
+use settings::SLOW_BIT;
 use sizes::RECORD;
 
 // Whether the record at the start of a slice is such a write: to 0x0001, with bit 4 set.
@@ -14,7 +16,7 @@ fn asks_slow(bytes: &[u8]) -> bool
     ensures { λ r. ⌜ r ≡ asksSlow (now (bytes .entry)) ⌝ }
 {
     let address = bytes[1] as u16 * 256 + bytes[2] as u16;
-    (bytes[0] == WRITE) & (address == 0x0001) & bit_at(bytes[3], 4)
+    (bytes[0] == WRITE) & (address == CONFIGURATION_B) & bit_at(bytes[3], SLOW_BIT)
 }
 
 // How many of the records are such writes.

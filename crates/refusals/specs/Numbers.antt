@@ -6,6 +6,7 @@ use lib.ListN.{length}
 use lib.Dec.{eqb, leb}
 use Rattle.bits.specs.Tests.{unless}
 use Rattle.sizes.specs.Sizes.{recordSize}
+use Rattle.numbers.specs.Numbers.{done, badSession, badBank, badSamples, shortRecords, badTop, badWords}
 use Rattle.chip.specs.declared.Chip.{Chip}
 use Rattle.regmap.specs.Format.{countOf}
 use Rattle.maptest.specs.MapTest.{mapNumber, topFits}
@@ -20,10 +21,10 @@ banksFit m b = eqb (length (b .active)) (countOf m) && eqb (length (b .buffer)) 
 -- The number of opening: the lowest that applies; document 02, Ask 1: 12 after 4.
 unfoldable pub openNumber : Chip → List ℕ → Banks → ℕ
 openNumber c m b =
-    unless (eqb (mapNumber c m) 0) (mapNumber c m)
-    (unless (banksFit m b) 4
-    (unless (topFits c m) 12
-    0))
+    unless (eqb (mapNumber c m) done) (mapNumber c m)
+    (unless (banksFit m b) badBank
+    (unless (topFits c m) badTop
+    done))
 
 -- Document 01, "Samples and edges": bits 4 to 7 of each sample are zero.
 unfoldable pub samplesGood : List ℕ → Bool
@@ -38,11 +39,11 @@ wordsFit m words = eqb (length words) ((countOf m + 63) / 64)
 -- size of a record for each.
 unfoldable pub readNumber : Chip → List ℕ → World → List ℕ → ℕ → ℕ
 readNumber c m w samples room =
-    unless (soundSession c (w .session)) 1
-    (unless (eqb (mapNumber c m) 0) (mapNumber c m)
-    (unless (banksFit m (w .banks)) 4
-    (unless (topFits c m) 12
-    (unless (wordsFit m (w .touched)) 16
-    (unless (leb (length samples) 65536 && samplesGood samples) 5
-    (unless (leb (recordSize * recordCount c (w .session .port) samples) room) 6
-    0))))))
+    unless (soundSession c (w .session)) badSession
+    (unless (eqb (mapNumber c m) done) (mapNumber c m)
+    (unless (banksFit m (w .banks)) badBank
+    (unless (topFits c m) badTop
+    (unless (wordsFit m (w .touched)) badWords
+    (unless (leb (length samples) 65536 && samplesGood samples) badSamples
+    (unless (leb (recordSize * recordCount c (w .session .port) samples) room) shortRecords
+    done))))))

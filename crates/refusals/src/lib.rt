@@ -12,6 +12,13 @@ mod room;
 
 use chip::Chip;
 use maptest::top_fits;
+use numbers::BAD_BANK;
+use numbers::BAD_SAMPLES;
+use numbers::BAD_SESSION;
+use numbers::BAD_TOP;
+use numbers::BAD_WORDS;
+use numbers::DONE;
+use numbers::SHORT_RECORDS;
 use room::room_suffices;
 use room::samples_good;
 use session::Session;
@@ -22,17 +29,17 @@ pub fn open_refusal(chip: Chip, number: u8, map: &[u8], active: &[u8], buffer: &
     requires { ⌜ number ≡ mapNumber chip (now map) ⌝ }
     ensures { λ r. ⌜ r ≡ openNumber chip (now (map .entry)) (banks (now (active .entry)) (now (buffer .entry))) ⌝ }
 {
-    if number != 0 {
+    if number != DONE {
         return number;
     }
     let count = regmap::count(map);
     if (active.len() == count) & (buffer.len() == count) {
         if top_fits(chip, map) {
-            return 0;
+            return DONE;
         }
-        return 12;
+        return BAD_TOP;
     }
-    4
+    BAD_BANK
 }
 
 // Whether there are as many words of touched registers as a map of so many registers needs.
@@ -58,23 +65,23 @@ pub fn read_refusal(
     ensures { λ r. ⌜ r ≡ readNumber chip (now (map .entry)) (world session (now (active .entry)) (now (buffer .entry)) (now (words .entry))) (now (samples .entry)) room ⌝ }
 {
     if !sound(chip, session) {
-        return 1;
+        return BAD_SESSION;
     }
-    let opens = open_refusal(chip, 0, map, active, buffer);
-    if opens != 0 {
+    let opens = open_refusal(chip, DONE, map, active, buffer);
+    if opens != DONE {
         return opens;
     }
     if !words_fit(regmap::count(map), words) {
-        return 16;
+        return BAD_WORDS;
     }
     if 65536 < samples.len() {
-        return 5;
+        return BAD_SAMPLES;
     }
     if !samples_good(samples) {
-        return 5;
+        return BAD_SAMPLES;
     }
     if room_suffices(chip, session, samples, room) {
-        return 0;
+        return DONE;
     }
-    6
+    SHORT_RECORDS
 }

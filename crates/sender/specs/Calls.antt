@@ -5,6 +5,7 @@ use mathlib.Core.List.{List}
 use lib.ListN.{length}
 use lib.Dec.{eqb}
 use Rattle.bits.specs.Buffer.{filled}
+use Rattle.numbers.specs.Numbers.{done}
 use Rattle.chip.specs.declared.Chip.{Chip}
 use Rattle.order.specs.Order.{Order}
 use Rattle.order.specs.Samples.{samplesOf}
@@ -22,6 +23,6 @@ sending number count samples = record { number = number; count = count; samples 
 -- A call of the sender, for a chip, on an order and a lent buffer.
 unfoldable pub sendOf : Chip → Order → List ℕ → Sending
 sendOf c o buffer =
-    cond (eqb (sendNumber c o (length buffer)) 0)
-    (sending 0 (length (samplesOf c o)) (filled (samplesOf c o) buffer))
+    cond (eqb (sendNumber c o (length buffer)) done)
+    (sending done (length (samplesOf c o)) (filled (samplesOf c o) buffer))
     (sending (sendNumber c o (length buffer)) 0 buffer)

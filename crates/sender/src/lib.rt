@@ -12,6 +12,7 @@ mod samples;
 
 use bits::bit_at;
 use chip::Chip;
+use numbers::DONE;
 pub use older::send_older;
 use order::Order;
 use order::number_of;
@@ -63,10 +64,10 @@ pub fn send(
         count: count,
     };
     let number = number_of(Chip::Newer, order, data, out.len());
-    if number == 0 {
+    if number == DONE {
         let samples = put_samples(order, data, out);
         return Sent {
-            number: 0,
+            number: DONE,
             samples: samples,
         };
     }

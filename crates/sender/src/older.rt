@@ -16,6 +16,7 @@ use crate::Sent;
 use crate::samples::put_all;
 use chip::Chip;
 use chip::Part;
+use numbers::DONE;
 use order::Order;
 use order::number_of;
 
@@ -71,10 +72,10 @@ pub fn send_older(
         count: count,
     };
     let number = number_of(chip, order, data, out.len());
-    if number == 0 {
+    if number == DONE {
         let samples = put_older(order, data, out);
         return Sent {
-            number: 0,
+            number: DONE,
             samples: samples,
         };
     }

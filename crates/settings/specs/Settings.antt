@@ -7,9 +7,12 @@ use Rattle.card.specs.Card.{isMirror}
 use Rattle.chip.specs.declared.Part.{Part}
 use Rattle.chip.specs.declared.Chip.{Chip}
 use Rattle.chip.specs.declared.Chip.the-variants.{Newer, Older}
+use Rattle.chip.specs.Registers.{configurationA, configurationB, serialControl, readbackControl}
 use Rattle.chip.specs.Chip.{partReadsBuffer, transferPlace}
 use Rattle.settings.specs.declared.Settings.{Settings}
 use Rattle.settings.specs.declared.InUse.{InUse}
+use Rattle.settings.specs.Bits.{resetBit, lsbFirstBit, ascendingBit, sdoActiveBit, singleInstructionBit, bufferReadbackBit}
+use Rattle.settings.specs.Bits.{transferBit, readbackControlBit}
 
 -- Document 01, "Registers and session": opening leaves all settings clear.
 abbrev pub allClear : Settings
@@ -42,38 +45,38 @@ abbrev pub nextAddress : Bool → ℕ → ℕ
 nextAddress ascending a = cond ascending ((a + 1) % 0x8000) ((a + 0x7FFF) % 0x8000)
 
 -- Document 01, "What a whole byte does", 0x0000. Document 02, Ask 2: only a byte that is its own mirror takes effect, so that one bit
--- of a pair tells the other. Bit 7 asks for a soft reset.
+-- of a pair tells the other.
 abbrev pub resets : ℕ → Bool
-resets v = bitAt v 7
+resets v = bitAt v resetBit
 
 -- three settings are taken from such a byte; a soft reset clears the other two
 abbrev pub configured : Settings → ℕ → Settings
-configured t v = withFirstThree (cond (resets v) allClear t) (bitAt v 6) (bitAt v 5) (bitAt v 4)
+configured t v = withFirstThree (cond (resets v) allClear t) (bitAt v lsbFirstBit) (bitAt v ascendingBit) (bitAt v sdoActiveBit)
 
--- 0x0001, without the slow setting (document 02, Ask 9): bit 7 single instruction, bit 5 buffer readback; the other bits are ignored.
+-- 0x0001, without the slow setting (document 02, Ask 9); the other bits are ignored.
 abbrev pub configuredB : Settings → ℕ → Settings
-configuredB t v = withLastTwo t (bitAt v 7) (bitAt v 5)
+configuredB t v = withLastTwo t (bitAt v singleInstructionBit) (bitAt v bufferReadbackBit)
 
 -- the settings of a newer chip after v is written to an address
 unfoldable pub newerAfter : Settings → ℕ → ℕ → Settings
 newerAfter t address v =
-    cond (eqb address 0x0000) (cond (isMirror v) (configured t v) t)
-    (cond (eqb address 0x0001) (configuredB t v)
+    cond (eqb address configurationA) (cond (isMirror v) (configured t v) t)
+    (cond (eqb address configurationB) (configuredB t v)
     t)
 
--- Document 02, Ask 1: 0x0000 of an older chip. Bit 6 sets the bit order; the other bits are ignored.
+-- Document 02, Ask 1: 0x0000 of an older chip sets the bit order; the other bits are ignored.
 abbrev pub ordered : Settings → ℕ → Settings
-ordered t v = withFirstThree t (bitAt v 6) (t .ascending) (t .sdo)
+ordered t v = withFirstThree t (bitAt v lsbFirstBit) (t .ascending) (t .sdo)
 
--- 0x0004 of the AD9557: bit 0 set reads the buffer stage; the other bits are ignored.
+-- 0x0004 of the AD9557: the bit set reads the buffer stage; the other bits are ignored.
 abbrev pub staged : Settings → ℕ → Settings
-staged t v = withLastTwo t (t .single) (bitAt v 0)
+staged t v = withLastTwo t (t .single) (bitAt v readbackControlBit)
 
 -- the settings of an older part after v is written to an address
 unfoldable pub olderAfter : Part → Settings → ℕ → ℕ → Settings
 olderAfter part t address v =
-    cond (eqb address 0x0000) (ordered t v)
-    (cond (eqb address 0x0004 && partReadsBuffer part) (staged t v)
+    cond (eqb address serialControl) (ordered t v)
+    (cond (eqb address readbackControl && partReadsBuffer part) (staged t v)
     t)
 
 -- the settings after v is written to an address
@@ -81,24 +84,25 @@ abbrev pub settingsAfter : Chip → Settings → ℕ → ℕ → Settings
 settingsAfter Newer t address v = newerAfter t address v
 settingsAfter (Older part top) t address v = olderAfter part t address v
 
--- What a control register reads as: 0x0000 the settings on both bits of each pair; 0x0001 its two bits; 0x000F zero.
+-- What a control register reads as: 0x0000 the settings on both bits of each pair (0x42 are bits 6 and 1, 0x24 are 5 and 2, 0x18 are 4
+-- and 3); 0x0001 its two bits (0x80 is bit 7, 0x20 bit 5); 0x000F zero.
 unfoldable pub newerReading : Settings → ℕ → ℕ
 newerReading t address =
-    cond (eqb address 0x0000) (bitOf (t .lsb) * 0x42 + bitOf (t .ascending) * 0x24 + bitOf (t .sdo) * 0x18)
-    (cond (eqb address 0x0001) (bitOf (t .single) * 0x80 + bitOf (t .readback) * 0x20)
+    cond (eqb address configurationA) (bitOf (t .lsb) * 0x42 + bitOf (t .ascending) * 0x24 + bitOf (t .sdo) * 0x18)
+    (cond (eqb address configurationB) (bitOf (t .single) * 0x80 + bitOf (t .readback) * 0x20)
     0)
 
 -- Document 02, Ask 1: 0x0000 and 0x0004 of an older part read as their one stored bit; 0x0005 as zero.
 unfoldable pub olderReading : Settings → ℕ → ℕ
 olderReading t address =
-    cond (eqb address 0x0000) (bitOf (t .lsb) * 0x40)
-    (cond (eqb address 0x0004) (bitOf (t .readback) * 0x01)
+    cond (eqb address serialControl) (bitOf (t .lsb) * 0x40)
+    (cond (eqb address readbackControl) (bitOf (t .readback) * 0x01)
     0)
 
 abbrev pub controlReading : Chip → Settings → ℕ → ℕ
 controlReading Newer t address = newerReading t address
 controlReading (Older part top) t address = olderReading t address
 
--- a byte written to a control register asks for a transfer: a 1 in bit 0 of the transfer's register
+-- a byte written to a control register asks for a transfer: a 1 in the bit of the transfer's register
 abbrev pub transfersAt : Chip → ℕ → ℕ → Bool
-transfersAt c address v = eqb address (transferPlace c) && bitAt v 0
+transfersAt c address v = eqb address (transferPlace c) && bitAt v transferBit

@@ -6,15 +6,42 @@ ghost use Rattle.settings.specs.Settings.{newerAfter, olderAfter, settin
 use crate::Settings;
 use bits::bit_at;
 use card::is_mirror;
+use chip::CONFIGURATION_A;
+use chip::CONFIGURATION_B;
 use chip::Chip;
+use chip::OLDER_TRANSFER;
 use chip::Part;
+use chip::READBACK_CONTROL;
+use chip::SERIAL_CONTROL;
+use chip::TRANSFER;
 use chip::part_reads_buffer;
+
+// The bits of configuration A, which has each setting twice: of each pair the higher one. An older chip has LSB first at the same bit.
+const RESET_BIT: u8 = 7;
+
+const LSB_FIRST_BIT: u8 = 6;
+
+const ASCENDING_BIT: u8 = 5;
+
+const SDO_ACTIVE_BIT: u8 = 4;
+
+// Those of configuration B. Slow is no setting.
+const SINGLE_INSTRUCTION_BIT: u8 = 7;
+
+const BUFFER_READBACK_BIT: u8 = 5;
+
+pub const SLOW_BIT: u8 = 4;
+
+// That of the transfer, of every chip, and that of the AD9557's readback control.
+const TRANSFER_BIT: u8 = 0;
+
+const READBACK_CONTROL_BIT: u8 = 0;
 
 // Whether a byte that takes effect at 0x0000 of a newer chip asks for a soft reset.
 pub fn asks_reset(v: u8) -> bool
     ensures { λ r. ⌜ r ≡ resets v ⌝ }
 {
-    bit_at(v, 7)
+    bit_at(v, RESET_BIT)
 }
 
 // Whether a byte written to a control register asks for a transfer.
@@ -22,8 +49,8 @@ pub fn transfers_at(chip: Chip, address: u16, v: u8) -> bool
     ensures { λ r. ⌜ r ≡ transfersAt chip address v ⌝ }
 {
     match chip {
-        Chip::Newer => (address == 0x000F) & bit_at(v, 0),
-        Chip::Older { part: _, top: _ } => (address == 0x0005) & bit_at(v, 0),
+        Chip::Newer => (address == TRANSFER) & bit_at(v, TRANSFER_BIT),
+        Chip::Older { part: _, top: _ } => (address == OLDER_TRANSFER) & bit_at(v, TRANSFER_BIT),
     }
 }
 
@@ -39,22 +66,22 @@ impl Settings {
     fn after_newer(mut self, address: u16, v: u8) -> Settings
         ensures { λ r. ⌜ r ≡ newerAfter self address v ⌝ }
     {
-        if address == 0x0000 {
+        if address == CONFIGURATION_A {
             if !is_mirror(v) {
                 return self;
             }
-            self.lsb = bit_at(v, 6);
-            self.ascending = bit_at(v, 5);
-            self.sdo = bit_at(v, 4);
+            self.lsb = bit_at(v, LSB_FIRST_BIT);
+            self.ascending = bit_at(v, ASCENDING_BIT);
+            self.sdo = bit_at(v, SDO_ACTIVE_BIT);
             if asks_reset(v) {
                 self.single = false;
                 self.readback = false;
             }
             return self;
         }
-        if address == 0x0001 {
-            self.single = bit_at(v, 7);
-            self.readback = bit_at(v, 5);
+        if address == CONFIGURATION_B {
+            self.single = bit_at(v, SINGLE_INSTRUCTION_BIT);
+            self.readback = bit_at(v, BUFFER_READBACK_BIT);
         }
         self
     }
@@ -63,12 +90,12 @@ impl Settings {
     fn after_older(mut self, part: Part, address: u16, v: u8) -> Settings
         ensures { λ r. ⌜ r ≡ olderAfter part self address v ⌝ }
     {
-        if address == 0x0000 {
-            self.lsb = bit_at(v, 6);
+        if address == SERIAL_CONTROL {
+            self.lsb = bit_at(v, LSB_FIRST_BIT);
             return self;
         }
-        if (address == 0x0004) & part_reads_buffer(part) {
-            self.readback = bit_at(v, 0);
+        if (address == READBACK_CONTROL) & part_reads_buffer(part) {
+            self.readback = bit_at(v, READBACK_CONTROL_BIT);
         }
         self
     }
@@ -87,10 +114,10 @@ impl Settings {
     fn reading_newer(self, address: u16) -> u8
         ensures { λ r. ⌜ r ≡ newerReading self address ⌝ }
     {
-        if address == 0x0000 {
+        if address == CONFIGURATION_A {
             return flag(self.lsb, 0x42) + flag(self.ascending, 0x24) + flag(self.sdo, 0x18);
         }
-        if address == 0x0001 {
+        if address == CONFIGURATION_B {
             return flag(self.single, 0x80) + flag(self.readback, 0x20);
         }
         0
@@ -100,10 +127,10 @@ impl Settings {
     fn reading_older(self, address: u16) -> u8
         ensures { λ r. ⌜ r ≡ olderReading self address ⌝ }
     {
-        if address == 0x0000 {
+        if address == SERIAL_CONTROL {
             return flag(self.lsb, 0x40);
         }
-        if address == 0x0004 {
+        if address == READBACK_CONTROL {
             return flag(self.readback, 0x01);
         }
         0

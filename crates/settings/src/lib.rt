@@ -7,6 +7,7 @@ ghost use Rattle.settings.specs.Settings.{allClear, noneInUse, inUseOf, 
 mod control;
 
 use chip::Chip;
+pub use control::SLOW_BIT;
 pub use control::asks_reset;
 pub use control::transfers_at;
 

@@ -7,6 +7,7 @@ use lib.ListN.{length}
 use lib.Dec.{eqb, leb}
 use Rattle.bits.specs.Tests.{unless}
 use Rattle.bits.specs.Buffer.{filled}
+use Rattle.numbers.specs.Numbers.{done, shortOut, badList, longSetup}
 use Rattle.chip.specs.declared.Chip.the-variants.{Newer}
 use Rattle.order.specs.Order.{Order}
 use Rattle.order.specs.Samples.{samplesOf, allSamples}
@@ -37,12 +38,12 @@ firstBad (o ∷ os) = cond (eqb (ownNumber o) 0) (firstBad os) (ownNumber o)
 
 -- 15 for over 65,536 samples in total, before 11
 abbrev pub roomNumber : ℕ → ℕ → ℕ
-roomNumber total room = unless (leb total mostSamples) 15 (unless (leb total room) 11 0)
+roomNumber total room = unless (leb total mostSamples) longSetup (unless (leb total room) shortOut done)
 
 -- The number of a list: 14 before all else, then that of the first bad order, then 15 and 11.
 unfoldable pub setupNumber : ℕ → List ℕ → ℕ → ℕ
 setupNumber settings list room =
-    unless (listGood mostOrders list) 14
+    unless (listGood mostOrders list) badList
     (cond (eqb (firstBad (ordersOf settings list)) 0)
     (roomNumber (length (allSamples Newer (ordersOf settings list))) room)
     (firstBad (ordersOf settings list)))

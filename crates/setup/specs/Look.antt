@@ -4,6 +4,7 @@ use mathlib.Core.Path.{_≡_}
 use mathlib.Core.List.{List}
 use lib.ListN.{length}
 use Rattle.bits.specs.Tests.{unless}
+use Rattle.numbers.specs.Numbers.{badList}
 use Rattle.chip.specs.declared.Chip.the-variants.{Newer}
 use Rattle.order.specs.Samples.{allSamples}
 use Rattle.setup.specs.Form.{listGood}
@@ -11,5 +12,5 @@ use Rattle.setup.specs.Calls.{mostOrders, ordersOf, firstBad}
 
 -- the number but for 15 and 11, and where it is 0 the total
 pub record Found (settings : ℕ) (list : List ℕ) (number total : ℕ) : Type 0 where
-  pub first : number ≡ unless (listGood mostOrders list) 14 (firstBad (ordersOf settings list))
+  pub first : number ≡ unless (listGood mostOrders list) badList (firstBad (ordersOf settings list))
   pub all : number ≡ 0 → total ≡ length (allSamples Newer (ordersOf settings list))

@@ -25,6 +25,10 @@ pub use list::VERSION;
 use list::after;
 use list::order_at;
 use list::stands_at;
+use numbers::BAD_LIST;
+use numbers::DONE;
+use numbers::LONG_SETUP;
+use numbers::SHORT_OUT;
 use order::number_of;
 use order::sample_count;
 use sender::Sent;
@@ -85,7 +89,7 @@ fn look_over(settings: u64, list: &[u8]) -> Looked
     while at < list.len() {
         if left == 0 {
             return Looked {
-                number: 14,
+                number: BAD_LIST,
                 total: 0,
             };
         }
@@ -96,7 +100,7 @@ fn look_over(settings: u64, list: &[u8]) -> Looked
             left -= 1;
         } else {
             return Looked {
-                number: 14,
+                number: BAD_LIST,
                 total: 0,
             };
         }
@@ -116,12 +120,12 @@ fn setup_number(settings: u64, list: &[u8], room: usize) -> u8
         return looked.number;
     }
     if MOST_SAMPLES < looked.total {
-        return 15;
+        return LONG_SETUP;
     }
     if room < looked.total {
-        return 11;
+        return SHORT_OUT;
     }
-    0
+    DONE
 }
 
 // Puts the samples of the order at a place of the list into the part of the buffer from n on, and gives the place after them.

@@ -5,6 +5,7 @@ use mathlib.Core.List.{List}
 use lib.Dec.{eqb}
 use lib.ListN.{length}
 use Rattle.bits.specs.Buffer.{filled}
+use Rattle.numbers.specs.Numbers.{done}
 use Rattle.several.specs.declared.Member.{Member}
 use Rattle.several.specs.Samples.{samplesOf}
 use Rattle.several.specs.State.{runAll, recordsAll, bytesOf}
@@ -25,7 +26,7 @@ outcome number ws mem count records = record { number = number; members = ws; me
 -- what the samples leave of chips and memory that are not refused
 unfoldable pub doneOf : List ℕ → List Member → List ℕ → List ℕ → List ℕ → Outcome
 doneOf m ws mem bytes records =
-    outcome 0
+    outcome done
     (membersWith ws (runAll m (statesOf mem ws) (samplesOf bytes)))
     (placedAll mem ws (runAll m (statesOf mem ws) (samplesOf bytes)))
     (countFrom 0 ws (samplesOf bytes))
@@ -34,6 +35,6 @@ doneOf m ws mem bytes records =
 -- A call on a map, a list of chips, the bank memory, the samples' bytes, and a lent record buffer.
 unfoldable pub severalOf : List ℕ → List Member → List ℕ → List ℕ → List ℕ → Outcome
 severalOf m ws mem bytes records =
-    cond (eqb (severalNumber m ws (length mem) bytes (length records)) 0)
+    cond (eqb (severalNumber m ws (length mem) bytes (length records)) done)
     (doneOf m ws mem bytes records)
     (outcome (severalNumber m ws (length mem) bytes (length records)) ws mem 0 records)

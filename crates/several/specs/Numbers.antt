@@ -5,6 +5,7 @@ use mathlib.Core.List.{List, [], _∷_}
 use lib.Dec.{eqb, leb}
 use lib.ListN.{length}
 use Rattle.bits.specs.Tests.{unless}
+use Rattle.numbers.specs.Numbers.{done, badSession, badBank, badSamples, shortRecords, badChips}
 use Rattle.chip.specs.declared.Chip.the-variants.{Newer}
 use Rattle.regmap.specs.Format.{countOf}
 use Rattle.maptest.specs.MapTest.{mapNumber}
@@ -72,10 +73,10 @@ recordSize = 8
 -- The number: 17 comes before 1, and the others are the reader's, of all chips.
 unfoldable pub severalNumber : List ℕ → List Member → ℕ → List ℕ → ℕ → ℕ
 severalNumber m ws size bytes room =
-    unless (listGood size ws) 17
-    (unless (allSound ws) 1
-    (unless (eqb (mapNumber Newer m) 0) (mapNumber Newer m)
-    (unless (rangesFit (countOf m) ws) 4
-    (unless (samplesGood (length ws) bytes) 5
-    (unless (leb (recordSize * countFrom 0 ws (samplesOf bytes)) room) 6
-    0)))))
+    unless (listGood size ws) badChips
+    (unless (allSound ws) badSession
+    (unless (eqb (mapNumber Newer m) done) (mapNumber Newer m)
+    (unless (rangesFit (countOf m) ws) badBank
+    (unless (samplesGood (length ws) bytes) badSamples
+    (unless (leb (recordSize * countFrom 0 ws (samplesOf bytes)) room) shortRecords
+    done)))))

@@ -10,6 +10,7 @@ ghost use Rattle.several.specs.Contracts.{turn, AllBytes};
 ghost use Rattle.several.specs.Numbers.{severalNumber, recordSize};
 ghost use Rattle.several.specs.Calls.{outcome, severalOf};
 pub use copies::gather;
+use numbers::DONE;
 use several::Member;
 use several::Turn;
 use several::step_member;
@@ -29,7 +30,7 @@ fn first_turn() -> Turn
 fn samples_to_read(number: u8, bytes: usize) -> usize
     ensures { λ r. ⌜ r ≡ cond (eqb number 0) (bytes / 2) 0 ⌝ }
 {
-    if number == 0 {
+    if number == DONE {
         return bytes / 2;
     }
     0

@@ -5,6 +5,7 @@ use mathlib.Core.Bool.{cond}
 use mathlib.Core.List.{List, [], _∷_}
 use lib.Dec.{ltb, leb}
 use lib.ListN.{length, set, take, replicate}
+use Rattle.numbers.specs.Numbers.{badChips}
 use Rattle.sessionbytes.specs.Layout.{sessionSize}
 use Rattle.several.specs.declared.Member.{Member}
 use Rattle.several.specs.Numbers.{severalNumber}
@@ -45,4 +46,4 @@ pub record Listed (g : Group) : Type 0 where
 
 -- the number of a call by the group of its chips: more than eight are refused with 17
 unfoldable pub groupNumber : List ℕ → Group → ℕ → List ℕ → ℕ → ℕ
-groupNumber m g size bytes room = cond (leb 9 (g .count)) 17 (severalNumber m (chipsOf g) size bytes room)
+groupNumber m g size bytes room = cond (leb 9 (g .count)) badChips (severalNumber m (chipsOf g) size bytes room)

@@ -14,6 +14,12 @@ use maptest::map_number;
 use members::all_sound;
 use memory::ranges_fit;
 use memory::ranges_good;
+use numbers::BAD_BANK;
+use numbers::BAD_CHIPS;
+use numbers::BAD_SAMPLES;
+use numbers::BAD_SESSION;
+use numbers::DONE;
+use numbers::SHORT_RECORDS;
 use room::room_suffices;
 use samples::samples_good;
 
@@ -22,26 +28,26 @@ pub fn several_refusal(map: &[u8], group: Group, size: usize, samples: &[u8], ro
     ensures { λ r. ⌜ r ≡ groupNumber (now (map .entry)) group size (now (samples .entry)) room ⌝ }
 {
     if (group.count < 1) | (8 < group.count) {
-        return 17;
+        return BAD_CHIPS;
     }
     if !ranges_good(group, size) {
-        return 17;
+        return BAD_CHIPS;
     }
     if !all_sound(group) {
-        return 1;
+        return BAD_SESSION;
     }
     let number = map_number(Chip::Newer, map);
-    if number != 0 {
+    if number != DONE {
         return number;
     }
     if !ranges_fit(group, regmap::count(map)) {
-        return 4;
+        return BAD_BANK;
     }
     if !samples_good(group.count, samples) {
-        return 5;
+        return BAD_SAMPLES;
     }
     if room_suffices(group, samples, room) {
-        return 0;
+        return DONE;
     }
-    6
+    SHORT_RECORDS
 }

@@ -5,6 +5,7 @@ use mathlib.Core.List.{List}
 use lib.ListN.{length}
 use lib.Dec.{eqb, leb}
 use Rattle.bits.specs.Tests.{unless}
+use Rattle.numbers.specs.Numbers.{done, badWords}
 use Rattle.touched.specs.Touched.{bitsOf, cleared, trues, nextTrue}
 
 -- Document 02, Ask 7: up to 128 words, as many as the largest map needs.
@@ -13,7 +14,7 @@ mostWords = 128
 
 -- Document 02, Ask 7: number 16 for more words.
 unfoldable pub wordsNumber : List ℕ → ℕ
-wordsNumber ws = unless (leb (length ws) mostWords) 16 0
+wordsNumber ws = unless (leb (length ws) mostWords) badWords done
 
 -- what a mark leaves: the number, and the words
 pub record Marking : Type 0 where
@@ -25,7 +26,7 @@ marking number words = record { number = number; words = words }
 
 -- Document 02, Ask 7: a mark of lent words.
 unfoldable pub markOf : List ℕ → Marking
-markOf ws = cond (eqb (wordsNumber ws) 0) (marking 0 (cleared ws)) (marking (wordsNumber ws) ws)
+markOf ws = cond (eqb (wordsNumber ws) done) (marking done (cleared ws)) (marking (wordsNumber ws) ws)
 
 -- what a count answers: the number, and how many registers were touched
 pub record Counting : Type 0 where
@@ -37,7 +38,7 @@ counting number count = record { number = number; count = count }
 
 -- Document 02, Ask 7: how many there are.
 unfoldable pub countingOf : List ℕ → Counting
-countingOf ws = cond (eqb (wordsNumber ws) 0) (counting 0 (trues (bitsOf ws))) (counting (wordsNumber ws) 0)
+countingOf ws = cond (eqb (wordsNumber ws) done) (counting done (trues (bitsOf ws))) (counting (wordsNumber ws) 0)
 
 -- what a search answers: the number, and the address found
 pub record Searching : Type 0 where
@@ -49,4 +50,4 @@ searching number address = record { number = number; address = address }
 
 -- Document 02, Ask 7: the next one from a given address on, or 64 times the number of words if none.
 unfoldable pub searchOf : List ℕ → ℕ → Searching
-searchOf ws a = cond (eqb (wordsNumber ws) 0) (searching 0 (nextTrue (bitsOf ws) a)) (searching (wordsNumber ws) 0)
+searchOf ws a = cond (eqb (wordsNumber ws) done) (searching done (nextTrue (bitsOf ws) a)) (searching (wordsNumber ws) 0)

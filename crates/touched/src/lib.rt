@@ -4,6 +4,8 @@ ghost use Prim.Native.Nat.{_+_, _*_, _<_, _≤_};
 ghost use lib.ListN.{length, drop};
 ghost use Rattle.touched.specs.Touched.{bitsOf, touchedWords, cleared, trues, firstTrue, nextTrue};
 ghost use Rattle.touched.specs.Calls.{mostWords, wordsNumber, marking, markOf, counting, countingOf, searching, searchOf};
+use numbers::BAD_WORDS;
+use numbers::DONE;
 
 // How many registers a word has bits for.
 const WORD: usize = 64;
@@ -38,9 +40,9 @@ fn number_of(words: &[u64]) -> u8
     ensures { λ r. ⌜ r ≡ wordsNumber (now (words .entry)) ⌝ }
 {
     if MOST_WORDS < words.len() {
-        return 16;
+        return BAD_WORDS;
     }
-    0
+    DONE
 }
 
 // Clears every word.
@@ -60,7 +62,7 @@ pub fn mark(words: &mut [u64]) -> u8
     ensures { λ r. ⌜ marking r (now (words .exit)) ≡ markOf (now (words .entry)) ⌝ }
 {
     let number = number_of(words);
-    if number == 0 {
+    if number == DONE {
         clear(words);
     }
     number
@@ -85,9 +87,9 @@ pub fn count(words: &[u64]) -> Counted
     ensures { λ r. ⌜ counting (r .number) (r .count) ≡ countingOf (now (words .entry)) ⌝ }
 {
     let number = number_of(words);
-    if number == 0 {
+    if number == DONE {
         return Counted {
-            number: 0,
+            number: DONE,
             count: count_ones(words),
         };
     }
@@ -135,9 +137,9 @@ pub fn next(words: &[u64], from: u64) -> Found
     ensures { λ r. ⌜ searching (r .number) (r .address) ≡ searchOf (now (words .entry)) from ⌝ }
 {
     let number = number_of(words);
-    if number == 0 {
+    if number == DONE {
         return Found {
-            number: 0,
+            number: DONE,
             address: first_from(words, from as usize),
         };
     }

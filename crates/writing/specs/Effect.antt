@@ -8,6 +8,7 @@ use Rattle.regmap.specs.declared.Entry.{Entry}
 use Rattle.regmap.specs.Format.{plain, buffered, control}
 use Rattle.card.specs.Card.{isMirror}
 use Rattle.chip.specs.declared.Chip.{Chip}
+use Rattle.chip.specs.Registers.{configurationA}
 use Rattle.chip.specs.Chip.{isNewer}
 use Rattle.settings.specs.Settings.{resets, transfersAt}
 use Rattle.writing.specs.declared.Stages.{Stages}
@@ -21,7 +22,7 @@ configurationEffect v = cond (isMirror v) (cond (resets v) Reset Control) Ignore
 -- a control register: 0x0000 of a newer chip as above; else a transfer if the byte asks for it
 unfoldable pub controlEffect : Chip → ℕ → ℕ → Effect
 controlEffect c a v =
-    cond (isNewer c && eqb a 0x0000) (configurationEffect v)
+    cond (isNewer c && eqb a configurationA) (configurationEffect v)
     (cond (transfersAt c a v) Transfer
     Control)
 

@@ -5,6 +5,7 @@ use crate::Effect;
 use crate::Stages;
 use bits::merge;
 use card::is_mirror;
+use chip::CONFIGURATION_A;
 use chip::Chip;
 use chip::is_newer;
 use regmap::BUFFERED;
@@ -31,7 +32,7 @@ fn configuration_effect(v: u8) -> Effect
 fn control_effect(chip: Chip, address: u16, v: u8) -> Effect
     ensures { λ r. ⌜ r ≡ controlEffect chip address v ⌝ }
 {
-    if is_newer(chip) & (address == 0x0000) {
+    if is_newer(chip) & (address == CONFIGURATION_A) {
         return configuration_effect(v);
     }
     if transfers_at(chip, address, v) {

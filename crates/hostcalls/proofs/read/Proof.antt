@@ -35,6 +35,9 @@ same-length-4 c = search needs
 returns : tie.Need-returns
 returns c = read-bytes _ _ _ _ _ _ _ _ (sym (c .before .before .before .before .before .before .before .before .before .before .before .before .before .before .before .before .before .before .before .before .are-session .ensures) ∙ c .before .before .before .before .before .before .before .before .before .before .before .before .before .before .before .before .before .before .before .if1 .taken) (c .before .before .before .before .before .before .before .before .before .before .before .before .before .before .before .before .session-of .ensures) (c .before .before .before .before .before .before .before .before .before .before .before .read-on .ensures) _ (c .before .bytes-of .ensures)
 
+cast-result-2 : tie.Need-cast-result-2
+cast-result-2 c = search needs
+
 returns-2 : tie.Need-returns-2
 returns-2 c = no-session _ _ _ _ _ _ _ _ (sym (c .before .are-session .ensures) ∙ c .if1 .left)
 
@@ -52,4 +55,5 @@ read-spec =
     same-length-3
     same-length-4
     returns
+    cast-result-2
     returns-2)

@@ -6,6 +6,7 @@ use borrow.Author.Tests.{eq-eqb, ne-eqb, not-true, not-false}
 use Rattle.bits.specs.Bits.{bitAt}
 use Rattle.bits.proofs.Cases.{yes, no}
 use Rattle.settings.specs.declared.Settings.{Settings}
+use Rattle.settings.specs.Bits.{lsbFirstBit, ascendingBit, sdoActiveBit, singleInstructionBit, bufferReadbackBit}
 use Rattle.settings.specs.Settings.{allClear, withFirstThree, withLastTwo, resets, configured, configuredB, newerAfter}
 use borrow.Author.Needs.{needs}
 use Rattle.settings.proofs.Settings.after_newer.Statement.{statement}
@@ -16,12 +17,12 @@ abbrev configuredBy : Settings → Bool → Bool → Bool → Bool → Settings
 configuredBy t lsb ascending sdo reset = withFirstThree (cond reset allClear t) lsb ascending sdo
 
 configured-by : (t : Settings) (v : ℕ) {lsb ascending sdo reset : Bool}
-    → lsb ≡ bitAt v 6 → ascending ≡ bitAt v 5 → sdo ≡ bitAt v 4 → reset ≡ resets v
+    → lsb ≡ bitAt v lsbFirstBit → ascending ≡ bitAt v ascendingBit → sdo ≡ bitAt v sdoActiveBit → reset ≡ resets v
     → configuredBy t lsb ascending sdo reset ≡ configured t v
 configured-by t v e f g h = λ i. configuredBy t (e i) (f i) (g i) (h i)
 
 configured-b-by : (t : Settings) (v : ℕ) {single readback : Bool}
-    → single ≡ bitAt v 7 → readback ≡ bitAt v 5 → withLastTwo t single readback ≡ configuredB t v
+    → single ≡ bitAt v singleInstructionBit → readback ≡ bitAt v bufferReadbackBit → withLastTwo t single readback ≡ configuredB t v
 configured-b-by t v e f = λ i. withLastTwo t (e i) (f i)
 
 is-mirror-requires : tie.Need-is-mirror-requires
