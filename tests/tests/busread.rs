@@ -148,7 +148,7 @@ fn with_a_status_reads_two_files() {
 
 /// Its buffers together stay below 64 KiB, and little else is on the stack.
 ///
-/// They take 64,288 bytes. Measured at n = 8,192, 150 runs each: the program
+/// They take 65,473 bytes. Measured at n = 8,192, 150 runs each: the program
 /// always ends well on 72 KiB and never on 62 (the system puts the start of the
 /// stack up to 8 KiB in). So 18 KiB more of buffers would never pass here, and
 /// twice the buffers would miss it by 44 KiB.

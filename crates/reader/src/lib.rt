@@ -65,16 +65,8 @@ pub fn read_tested(
     requires { ⌜ mapNumber chip (now map) ≡ 0 ⌝ }
     ensures { λ r. ⌜ outcome (r .number) (world (r .session) (now (active .exit)) (now (buffer .exit)) (now (words .exit))) (r .count) (now (records .exit)) ≡ readOf chip (now (map .entry)) (world session (now (active .entry)) (now (buffer .entry)) (now (words .entry))) (now (samples .entry)) (now (records .entry)) ⌝ }
 {
-    let refused = read_refusal(
-        chip,
-        map,
-        session,
-        active,
-        buffer,
-        words,
-        samples,
-        records.len(),
-    );
+    let room = records.len();
+    let refused = read_refusal(chip, map, session, active, buffer, words, samples, room);
     if refused != DONE {
         return Answer {
             number: refused,

@@ -27,7 +27,7 @@ use Rattle.recording.specs.declared.Family.the-variants.{Newer, Older}
 use Rattle.recording.specs.declared.tally.Tally.{Tally}
 use Rattle.recording.specs.declared.input.Filled.{Filled}
 use Rattle.recording.specs.declared.input.Filled.the-variants.{Bytes, Failed}
-use Rattle.recording.specs.Sizes.{leastLength, mostLength, mapSpace, piece, recordSpace}
+use Rattle.recording.specs.Sizes.{leastLength, mostLength, mapSpace, piece, recordSpace, textSpace}
 use Rattle.recording.specs.Bounds.{Within, mapEnd}
 use Rattle.recording.specs.Families.{chipOf}
 use Rattle.recording.specs.Tally.{nothingRead, countedOf, Room}
@@ -148,10 +148,11 @@ pub words-still : (m words words₀ : List ℕ) → length words ≡ length word
 words-still m words words₀ e f = ap (λ (n : ℕ). eqb n ((countOf m + 63) / 64)) e ∙ f
 
 -- What holds whenever a piece is about to be read: the banks, words and buffers are as long as they were lent, and the counts are in order.
-pub record Reading (active₀ buffer₀ words₀ active buffer words samples records : List ℕ) (t : Tally) : Type 0 where
+pub record Reading (active₀ buffer₀ words₀ active buffer words samples records text : List ℕ) (t : Tally) : Type 0 where
   pub same-active : length active ≡ length active₀
   pub same-buffer : length buffer ≡ length buffer₀
   pub same-words : length words ≡ length words₀
   pub samples-room : length samples ≡ piece
   pub records-room : length records ≡ recordSpace
+  pub text-room : length text ≡ textSpace
   pub counts : Counts t

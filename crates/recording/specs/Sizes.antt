@@ -23,4 +23,4 @@ recordSpace = 9562
 
 -- the bytes of the lines that are written at a time
 abbrev pub textSpace : ℕ
-textSpace = 5400
+textSpace = 5040

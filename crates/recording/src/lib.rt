@@ -4,7 +4,7 @@
 // What a file holds is the system's, and no contract can say it. So the promises here are of how a reading ends, of what is told
 // beside it, and that no buffer is left.
 //
-// The buffers, with those of the calls, are at most 65,321 bytes together.
+// The buffers, with those of the calls, are at most 65,473 bytes together.
 ghost use mathlib.Core.Path.{_≡_};
 ghost use mathlib.Core.Bool.{true};
 ghost use Prim.Native.Nat.{_<_, _≤_, _+_, _-_, _/_, min};
@@ -25,6 +25,9 @@ use chip::Chip;
 use chip::Part;
 use input::Filled;
 use input::MAP_SPACE;
+use lines::PAIRS;
+use output::TEXT_SPACE;
+use reader::read_tested;
 use regmap::MOST_COUNT;
 use session::Session;
 use sizes::RECORD;
@@ -121,32 +124,25 @@ fn read_trace(
     ensures { λ r. ⌜ Known (r .end) ⌝ }
 {
     let mut samples = [0u8; PIECE];
-    let mut records = [0u8; RECORD_SPACE];
+    let mut found = [0u8; RECORD_SPACE];
+    let mut text = [0u8; TEXT_SPACE];
+    let mut pairs = [0u16; PAIRS];
+    lines::fill_pairs(&mut pairs);
     let mut tally = tally::nothing_read();
     while tally.samples < u64::MAX - PIECE as u64 {
         let Filled::Bytes(got) = input::fill(from, &mut samples, 0, PIECE) else {
             return ended(End::SamplesFailed, tally);
         };
         let piece = &samples[..got];
-        let answer = reader::read_tested(
-            chip,
-            map,
-            session,
-            active,
-            buffer,
-            words,
-            piece,
-            &mut records,
-        );
-        let number = answer.number;
-        if number != 0 {
-            return ended(refuse(to, number), tally::up_to_bad(tally, piece));
+        let answer = read_tested(chip, map, session, active, buffer, words, piece, &mut found);
+        if answer.number != 0 {
+            return ended(refuse(to, answer.number), tally::up_to_bad(tally, piece));
         }
         let size = RECORD * answer.count;
-        if !output::write_lines(to, &records, size) {
+        if !output::write_lines(to, &found, size, &pairs, &mut text) {
             return ended(End::OutputFailed, tally);
         }
-        tally = tally::counted(tally, piece, &records[..size]);
+        tally = tally::counted(tally, piece, &found[..size]);
         if got < PIECE {
             return ended(close(chip, to, tally), tally);
         }

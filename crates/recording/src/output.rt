@@ -1,18 +1,21 @@
 // What goes to an open file: the lines of document 01's text. Each call answers whether it went out.
 ghost use Prim.Native.Nat.{_≤_};
 ghost use lib.ListN.{length};
+ghost use Rattle.lines.specs.Pairs.{Paired};
+ghost use Rattle.lines.specs.Line.{lineSize};
 ghost use Rattle.report.specs.Put.{Printed};
 ghost use Rattle.recording.specs.Tally.{lastLine};
 use crate::tally::Tally;
 use chip::Chip;
 use lines::LINE;
+use lines::PAIRS;
 use report::LAST_LINE;
 use report::put_count_line;
 use report::put_older_count_line;
 use sizes::RECORD;
 
-// The bytes for the lines that are written at a time, which are 300.
-const TEXT_SPACE: usize = 5400;
+// The bytes for the lines that are written at a time, which are 280.
+pub const TEXT_SPACE: usize = 5040;
 
 // Writes the first line.
 pub fn write_map_line(to: i32, n: usize) -> bool {
@@ -47,14 +50,19 @@ pub fn write_refused_line(to: i32, number: u8) -> bool
     io::write_all(to, &line[..count])
 }
 
-// Writes the lines of the records up to an end, 300 at a time.
-pub fn write_lines(to: i32, records: &[u8], end: usize) -> bool
-    requires { ⌜ end ≤ length (now records) ⌝ }
+// Writes the lines of the records up to an end, as many at a time as the lent text has room for.
+pub fn write_lines(
+    to: i32,
+    records: &[u8],
+    end: usize,
+    pairs: &[u16; PAIRS],
+    text: &mut [u8],
+) -> bool
+    requires { ⌜ (end ≤ length (now records)) × Paired (now pairs) × (lineSize ≤ length (now text)) ⌝ }
 {
-    let mut text = [0u8; TEXT_SPACE];
     let mut at = 0;
     while RECORD <= end - at {
-        let lines = report::put_lines(&records[at..end], &mut text);
+        let lines = report::put_lines(pairs, &records[at..end], text);
         if !io::write_all(to, &text[..LINE * lines]) {
             return false;
         }

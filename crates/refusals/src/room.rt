@@ -13,17 +13,17 @@ use run::run_samples;
 use session::Session;
 use sizes::RECORD;
 
-// Whether no sample has any of bits 4 to 7.
+// Whether no sample has any of bits 4 to 7: what bits they have together is tested once, at the end.
 pub fn samples_good(samples: &[u8]) -> bool
     ensures { λ r. ⌜ r ≡ samplesGood (now (samples .entry)) ⌝ }
 {
-    let mut good = true;
+    let mut together: u8 = 0;
     let mut i: usize = 0;
     while i < samples.len() {
-        good = good & (samples[i] <= 15);
+        together = together | samples[i];
         i += 1;
     }
-    good
+    together <= 15
 }
 
 // How many records the samples give: a pass over them with nothing to put, no map, no banks and no words.

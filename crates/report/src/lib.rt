@@ -3,23 +3,27 @@ ghost use mathlib.Core.Path.{_≡_};
 ghost use mathlib.Core.List.{_∷_, [], _++_};
 ghost use Prim.Native.Nat.{_+_, _≤_, min};
 ghost use lib.ListN.{length};
+ghost use Rattle.lines.specs.Pairs.{Paired};
 ghost use Rattle.report.specs.Numbers.{decimalOf};
 ghost use Rattle.report.specs.Text.{mapLine, countLine, olderCountLine, refusedLine};
 ghost use Rattle.report.specs.Put.{Placed, Printed, Listed};
 use lines::LINE;
+use lines::PAIRS;
+use lines::line_of;
 use sizes::RECORD;
 
 // The bytes of the last line at most: three words, each with its number of up to 20 digits and a byte to end it.
 pub const LAST_LINE: usize = 84;
 
-// The lines of as many records as there are and as fit; how many that is.
-pub fn put_lines(records: &[u8], out: &mut [u8]) -> usize
+// The lines of as many records as there are and as fit; how many that is. The table is that of `lines::fill_pairs`.
+pub fn put_lines(pairs: &[u16; PAIRS], records: &[u8], out: &mut [u8]) -> usize
+    requires { ⌜ Paired (now pairs) ⌝ }
     ensures { λ r. ⌜ Listed (now (records .entry)) (now (out .entry)) (now (out .exit)) r ⌝ }
 {
     let lines = least(records.len() / RECORD, out.len() / LINE);
     let mut n = 0;
     while n < lines {
-        put(&lines::line_of(&records[n * RECORD..]), out, n * LINE);
+        put(&line_of(pairs, &records[n * RECORD..]), out, n * LINE);
         n += 1;
     }
     lines

@@ -1,9 +1,5 @@
 -- `lines::line_of` meets its contract: byte by byte, the line of the definition.
 use mathlib.Core.List.{_∷_, _++_}
-use Prim.Native.Nat.{ℕ, _/_, _%_, _<_}
-use native.Mathlib.Omega.{arith}
-use mir.Syntax.{w8}
-use mir.Val.{Fits}
 use Rattle.lines.specs.Text.{bytesOf}
 use Rattle.lines.specs.Line.{lineOf}
 use borrow.Author.Needs.{needs}
@@ -31,48 +27,41 @@ shared-slice-read-letter c = search needs
 letter-requires : tie.Need-letter-requires
 letter-requires c κs = search needs
 
--- the two digits of a byte
-high-digit : (x : ℕ) → Fits w8 x → x / 16 < 16
-high-digit x h = omega (arith, h .fits)
+first-digit-requires : tie.Need-first-digit-requires
+first-digit-requires c κs = search needs
 
-low-digit : (x : ℕ) → x % 16 < 16
-low-digit x = omega arith
+last-digit-requires : tie.Need-last-digit-requires
+last-digit-requires c κs = search needs
 
-digit-requires : tie.Need-digit-requires
-digit-requires c κs = high-digit _ (c .before .shared-slice-known7 .given 1)
+first-digit-requires-2 : tie.Need-first-digit-requires-2
+first-digit-requires-2 c κs = search needs
 
-digit-requires-2 : tie.Need-digit-requires-2
-digit-requires-2 c κs = low-digit _
+last-digit-requires-2 : tie.Need-last-digit-requires-2
+last-digit-requires-2 c κs = search needs
 
-digit-requires-3 : tie.Need-digit-requires-3
-digit-requires-3 c κs = high-digit _ (c .before .before .before .shared-slice-known7 .given 2)
+first-digit-requires-3 : tie.Need-first-digit-requires-3
+first-digit-requires-3 c κs = search needs
 
-digit-requires-4 : tie.Need-digit-requires-4
-digit-requires-4 c κs = low-digit _
+last-digit-requires-3 : tie.Need-last-digit-requires-3
+last-digit-requires-3 c κs = search needs
 
-digit-requires-5 : tie.Need-digit-requires-5
-digit-requires-5 c κs = high-digit _ (c .before .before .before .before .before .shared-slice-known7 .given 3)
+first-digit-requires-4 : tie.Need-first-digit-requires-4
+first-digit-requires-4 c κs = search needs
 
-digit-requires-6 : tie.Need-digit-requires-6
-digit-requires-6 c κs = low-digit _
+last-digit-requires-4 : tie.Need-last-digit-requires-4
+last-digit-requires-4 c κs = search needs
 
-digit-requires-7 : tie.Need-digit-requires-7
-digit-requires-7 c κs = high-digit _ (c .before .before .before .before .before .before .before .shared-slice-known7 .given 4)
+shared-slice-read-last-digit : tie.Need-shared-slice-read-last-digit
+shared-slice-read-last-digit c = search needs
 
-digit-requires-8 : tie.Need-digit-requires-8
-digit-requires-8 c κs = low-digit _
+last-digit-requires-5 : tie.Need-last-digit-requires-5
+last-digit-requires-5 c κs = search needs
 
-shared-slice-read-digit : tie.Need-shared-slice-read-digit
-shared-slice-read-digit c = search needs
+first-digit-requires-5 : tie.Need-first-digit-requires-5
+first-digit-requires-5 c κs = search needs
 
-digit-requires-9 : tie.Need-digit-requires-9
-digit-requires-9 c κs = low-digit _
-
-digit-requires-10 : tie.Need-digit-requires-10
-digit-requires-10 c κs = high-digit _ (c .before .shared-slice-known8 .given 6)
-
-digit-requires-11 : tie.Need-digit-requires-11
-digit-requires-11 c κs = low-digit _
+last-digit-requires-6 : tie.Need-last-digit-requires-6
+last-digit-requires-6 c κs = search needs
 
 returns : tie.Need-returns
 unfolding lineOf
@@ -84,11 +73,11 @@ returns c =
     let c₂ = c₄ .before .before in
     λ i.
     c₂ .before .before .letter .ensures i ∷ bytesOf " "
-    ++ (c₂ .before .digit .ensures i ∷ c₂ .digit2 .ensures i ∷ c₄ .before .digit3 .ensures i ∷ c₄ .digit4 .ensures i ∷ bytesOf " ")
-    ++ (c₆ .before .digit5 .ensures i ∷ c₆ .digit6 .ensures i ∷ bytesOf " ")
-    ++ (c₈ .before .digit7 .ensures i ∷ c₈ .digit8 .ensures i ∷ bytesOf " ")
-    ++ (c₉ .digit9 .ensures i ∷ bytesOf " ")
-    ++ (c .before .digit10 .ensures i ∷ c .digit11 .ensures i ∷ bytesOf "\n")
+    ++ (c₂ .before .first-digit .ensures i ∷ c₂ .last-digit .ensures i ∷ c₄ .before .first-digit2 .ensures i ∷ c₄ .last-digit2 .ensures i ∷ bytesOf " ")
+    ++ (c₆ .before .first-digit3 .ensures i ∷ c₆ .last-digit3 .ensures i ∷ bytesOf " ")
+    ++ (c₈ .before .first-digit4 .ensures i ∷ c₈ .last-digit4 .ensures i ∷ bytesOf " ")
+    ++ (c₉ .last-digit5 .ensures i ∷ bytesOf " ")
+    ++ (c .before .first-digit5 .ensures i ∷ c .last-digit6 .ensures i ∷ bytesOf "\n")
 
 pub line-of-spec : {M : Type 1} → statement M
 line-of-spec =
@@ -101,16 +90,16 @@ line-of-spec =
     shared-slice-read-moved
     shared-slice-read-letter
     letter-requires
-    digit-requires
-    digit-requires-2
-    digit-requires-3
-    digit-requires-4
-    digit-requires-5
-    digit-requires-6
-    digit-requires-7
-    digit-requires-8
-    shared-slice-read-digit
-    digit-requires-9
-    digit-requires-10
-    digit-requires-11
+    first-digit-requires
+    last-digit-requires
+    first-digit-requires-2
+    last-digit-requires-2
+    first-digit-requires-3
+    last-digit-requires-3
+    first-digit-requires-4
+    last-digit-requires-4
+    shared-slice-read-last-digit
+    last-digit-requires-5
+    first-digit-requires-5
+    last-digit-requires-6
     returns)

@@ -11,10 +11,10 @@ use Rattle.report.proofs.put_lines.Statement.{statement}
 use Rattle.report.proofs.put_lines.Tie as tie
 
 abbrev Inv-loop : tie.InvT-loop
-Inv-loop records out₀ lines n₀ out n = Listing records out₀ out lines n
+Inv-loop pairs records out₀ lines n₀ out n = Listing records out₀ out lines n
 
 abbrev μ-loop : tie.MeasureT-loop
-μ-loop records out₀ lines n₀ out n = lines - n
+μ-loop pairs records out₀ lines n₀ out n = lines - n
 
 least-requires : tie.Need-least-requires Inv-loop μ-loop
 least-requires c κs = tt
@@ -35,7 +35,7 @@ part-line-of-end : tie.Need-part-line-of-end Inv-loop μ-loop
 part-line-of-end c = omega arith
 
 line-of-requires : tie.Need-line-of-requires Inv-loop μ-loop
-line-of-requires c κs = rw from-on (simp length-drop (omega arith))
+line-of-requires c κs = (c .before .before .before .before .before .before .pre, rw from-on (simp length-drop (omega arith)))
 
 slice-aggregate-put : tie.Need-slice-aggregate-put Inv-loop μ-loop
 slice-aggregate-put c = omega arith

@@ -5,15 +5,14 @@ use native.Mathlib.Omega.{arith}
 use lib.ListN.{length}
 use lib.Seq.{length-take-le}
 use borrow.Author.Needs.{needs}
-use Rattle.recording.specs.Sizes.{textSpace}
 use Rattle.recording.proofs.output.write_lines.Statement.{statement}
 use Rattle.recording.proofs.output.write_lines.Tie as tie
 
 abbrev Inv-loop : tie.InvT-loop
-Inv-loop to records end text₀ at₀ text at = (at ≤ end) × (length text ≡ textSpace)
+Inv-loop to records end pairs text₀ at₀ text at = (at ≤ end) × (length text ≡ length text₀)
 
 abbrev μ-loop : tie.MeasureT-loop
-μ-loop to records end text₀ at₀ text at = end - at
+μ-loop to records end pairs text₀ at₀ text at = end - at
 
 loop-holds : tie.Need-loop-holds Inv-loop μ-loop
 loop-holds c = search needs
@@ -30,23 +29,23 @@ part-put-lines-start c = search needs
 part-put-lines-end : tie.Need-part-put-lines-end Inv-loop μ-loop
 part-put-lines-end c = search needs
 
-slice-aggregate-put-lines : tie.Need-slice-aggregate-put-lines Inv-loop μ-loop
-slice-aggregate-put-lines c = search needs
-
 put-lines-requires : tie.Need-put-lines-requires Inv-loop μ-loop
-put-lines-requires c κs = tt
+put-lines-requires c κs = search needs
 
-mul-text : tie.Need-mul-text Inv-loop μ-loop
-mul-text c = search needs
+mul-write-all : tie.Need-mul-write-all Inv-loop μ-loop
+mul-write-all c = search needs
 
-array-share-prefix-text : tie.Need-array-share-prefix-text Inv-loop μ-loop
-array-share-prefix-text c = search needs
+slice-reshare-prefix-write-all : tie.Need-slice-reshare-prefix-write-all Inv-loop μ-loop
+slice-reshare-prefix-write-all c = search needs
 
 slice-aggregate-write-all : tie.Need-slice-aggregate-write-all Inv-loop μ-loop
 slice-aggregate-write-all c = sym (length-take-le _ _ (omega arith))
 
 write-all-requires : tie.Need-write-all-requires Inv-loop μ-loop
 write-all-requires c κs = tt
+
+same-length : tie.Need-same-length Inv-loop μ-loop
+same-length c = search needs
 
 returns : tie.Need-returns Inv-loop μ-loop
 returns c = tt
@@ -63,6 +62,9 @@ loop-less c = search needs
 loop-again : tie.Need-loop-again Inv-loop μ-loop
 loop-again c = search needs
 
+same-length-2 : tie.Need-same-length-2 Inv-loop μ-loop
+same-length-2 c = search needs
+
 returns-2 : tie.Need-returns-2 Inv-loop μ-loop
 returns-2 c = tt
 
@@ -77,15 +79,16 @@ write-lines-spec =
     sub-put-lines
     part-put-lines-start
     part-put-lines-end
-    slice-aggregate-put-lines
     put-lines-requires
-    mul-text
-    array-share-prefix-text
+    mul-write-all
+    slice-reshare-prefix-write-all
     slice-aggregate-write-all
     write-all-requires
+    same-length
     returns
     mul-at
     add-at
     loop-less
     loop-again
+    same-length-2
     returns-2)
