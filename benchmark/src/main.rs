@@ -14,6 +14,7 @@ mod inputs;
 mod measure;
 mod page;
 mod programs;
+mod setups;
 mod several;
 mod sides;
 mod table;

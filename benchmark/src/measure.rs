@@ -7,6 +7,7 @@ use crate::counting;
 use crate::growth;
 use crate::page;
 use crate::programs::{Recording, MEBIBYTE};
+use crate::setups;
 use crate::sides::Side;
 use crate::table::{self, Row};
 use crate::timing::{alternate, Times};
@@ -31,8 +32,13 @@ pub fn measure() {
         row_of_program(format!("busread-{registers}"), recording, counts)
     }));
     rows.push(row_of_program("busread-four-times".into(), Recording::four_times, counts));
-    let tables =
-        format!("{}\n{}\n{}\n", table::of_rows(&rows), growth::measure(counts), growth::sigrok());
+    let tables = [
+        table::of_rows(&rows),
+        setups::measure(counts),
+        growth::measure(counts),
+        growth::sigrok() + "\n",
+    ]
+    .join("\n");
     println!("\n{tables}");
     page::put_tables(&tables);
     chart::draw(&rows);

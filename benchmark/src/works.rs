@@ -6,6 +6,7 @@ use second::reader::RECORD;
 use second::sender::{self, Order};
 
 use crate::inputs;
+use crate::setups::Setup;
 use crate::several;
 use crate::sides::{read_by, read_older_by, send_by, send_older_by, test_by, Side, Space};
 
@@ -58,6 +59,13 @@ const UNEVEN: [(&str, usize, usize, f64); 3] = [
     ("read-uneven-6-10", 6, 10, 0.5),
 ];
 
+/// A setup in one call, its orders one by one, and how many bytes each of them has.
+pub const SETUPS: [(&str, &str, usize); 3] =
+    [("setup-1", "each-1", 1), ("setup-16", "each-16", 16), ("setup-60", "each-60", 60)];
+
+/// Of every work that sends to a newer chip.
+const SENT: Limit = Limit { most: 1.2, stretch: 1.0 };
+
 /// Of every work of the older chips.
 const OLDER: Limit = Limit { most: 1.2, stretch: 1.0 };
 
@@ -81,6 +89,10 @@ enum Job {
         top: Option<u64>,
         settings: u64,
         data: Vec<u8>,
+    },
+    Setup {
+        setup: Setup,
+        joined: bool,
     },
     Test {
         map: Vec<u8>,
@@ -116,10 +128,9 @@ impl Work {
     /// Its samples are counted by the second implementation alone: a call of the
     /// library here would be counted with the one that is measured.
     fn send(name: &'static str, settings: u64) -> Self {
-        let limit = Limit { most: 1.2, stretch: 1.0 };
         let data = inputs::bytes(ORDERED);
         let units = sender::send(&order(settings, &data), &mut [0; ORDERED_SAMPLES]).count;
-        Work { name, limit, units, job: Job::Send { top: None, settings, data } }
+        Work { name, limit: SENT, units, job: Job::Send { top: None, settings, data } }
     }
 
     fn send_older(name: &'static str, settings: u64) -> Self {
@@ -127,6 +138,13 @@ impl Work {
         let order = older_order(settings, &data);
         let units = sender::send_older(MOST_TOP, &order, &mut [0; ORDERED_SAMPLES]).count;
         Work { name, limit: OLDER, units, job: Job::Send { top: Some(MOST_TOP), settings, data } }
+    }
+
+    /// Orders of so many bytes each, in one call or one by one.
+    fn setup(name: &'static str, bytes: usize, joined: bool) -> Self {
+        let setup = Setup::new(bytes);
+        let units = setup.samples;
+        Work { name, limit: SENT, units, job: Job::Setup { setup, joined } }
     }
 
     pub fn test(registers: usize) -> Self {
@@ -148,6 +166,7 @@ impl Work {
         match &self.job {
             Job::Read { map, room, .. } => Space::new((map.len() - 5) / 3, *room),
             Job::Send { .. } => Space::new(0, ORDERED_SAMPLES),
+            Job::Setup { setup, .. } => Space::new(0, setup.samples),
             Job::Test { .. } => Space::new(0, 0),
             Job::Several { given } => several::space(given),
         }
@@ -166,6 +185,8 @@ impl Work {
             Job::Send { top: Some(top), settings, data } => {
                 send_older_by(side, *top, &older_order(*settings, data), space)
             }
+            Job::Setup { setup, joined: true } => setup.send_by(side, space),
+            Job::Setup { setup, joined: false } => setup.each_by(side, space),
             Job::Test { map } => test_by(side, map, space),
             Job::Several { given } => several::read_by(side, given, space),
         }
@@ -182,6 +203,10 @@ impl Work {
             (Job::Send { top: None, .. }, Side::Second) => "second_send",
             (Job::Send { .. }, Side::Proved) => "couplingnut_send_older",
             (Job::Send { .. }, Side::Second) => "second_send_older",
+            (Job::Setup { joined: true, .. }, Side::Proved) => "couplingnut_send_setup",
+            (Job::Setup { joined: true, .. }, Side::Second) => "second_send_setup",
+            (Job::Setup { .. }, Side::Proved) => "proved_each",
+            (Job::Setup { .. }, Side::Second) => "second_each",
             (Job::Test { .. }, Side::Proved) => "couplingnut_map_test",
             (Job::Test { .. }, Side::Second) => "second_map_test",
             (Job::Several { .. }, Side::Proved) => "couplingnut_read_several",
@@ -212,7 +237,7 @@ fn older_order(settings: u64, data: &[u8]) -> Order<'_> {
 }
 
 /// The works of one call each, in the order of the table.
-const NAMES: [&str; 20] = [
+const NAMES: [&str; 23] = [
     "read-dense",
     "read-dense-lsb",
     "read-single",
@@ -224,6 +249,9 @@ const NAMES: [&str; 20] = [
     "send-lsb",
     "send-single-msb",
     "send-single-lsb",
+    "setup-1",
+    "setup-16",
+    "setup-60",
     "map-test",
     "older-dense",
     "older-counted",
@@ -252,9 +280,16 @@ fn often(name: &str) -> Option<Work> {
     Some(read(name, goal, inputs::uneven(least, most, SAMPLES)))
 }
 
+/// The work of this name that sends a setup.
+fn setup(name: &str) -> Option<Work> {
+    let &(joined, each, bytes) = SETUPS.iter().find(|row| row.0 == name || row.1 == name)?;
+    let is_joined = name == joined;
+    Some(Work::setup(if is_joined { joined } else { each }, bytes, is_joined))
+}
+
 /// The work of this name.
 pub fn work(name: &str) -> Option<Work> {
-    if let Some(work) = often(name) {
+    if let Some(work) = often(name).or_else(|| setup(name)) {
         return Some(work);
     }
     let name = *NAMES.iter().find(|known| **known == name)?;

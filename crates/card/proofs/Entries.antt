@@ -8,7 +8,7 @@ use lib.ListN.{getD}
 use lib.Dec.{eqb}
 use borrow.Author.Tests.{eqb-true}
 use Rattle.bits.proofs.Tables.{allBelow, below}
-use Rattle.card.specs.Card.{turned}
+use Rattle.card.specs.Card.{turned, IsCard}
 use Rattle.card.proofs.Laws.{turned-lt, turned-both, turned-low}
 
 -- the code's table
@@ -23,12 +23,13 @@ card-right : allBelow right 16 ≡ true
 unfolding turned
 card-right = refl
 
-entry : (n : ℕ) → n < 16 → getD card n 0 ≡ turned 4 n
-entry n h = eqb-true (getD card n 0) (turned 4 n) (below right 16 card-right n h)
+pub is-card : IsCard card
+is-card n h = eqb-true (getD card n 0) (turned 4 n) (below right 16 card-right n h)
 
 -- a byte turned: its two nibbles turned, and exchanged
-pub turned-by-card : (x : ℕ) → x < 256 → getD card (x % 16) 0 * 16 + getD card (x / 16) 0 ≡ turned 8 x
-turned-by-card x h = rw (entry (x % 16) (omega arith), entry (x / 16) (omega arith), turned-low 4 x) (sym (turned-both 4 4 x))
+module _ (t : List ℕ) (is : IsCard t) (x : ℕ) (h : x < 256) where
+  pub turned-by-card : getD t (x % 16) 0 * 16 + getD t (x / 16) 0 ≡ turned 8 x
+  turned-by-card = rw (is (x % 16) (omega arith), is (x / 16) (omega arith), turned-low 4 x) (sym (turned-both 4 4 x))
 
-pub by-card-lt : (x : ℕ) → x < 256 → getD card (x % 16) 0 * 16 + getD card (x / 16) 0 < 256
-by-card-lt x h = rw (turned-by-card x h) (turned-lt 8 x)
+  pub by-card-lt : getD t (x % 16) 0 * 16 + getD t (x / 16) 0 < 256
+  by-card-lt = rw turned-by-card (turned-lt 8 x)

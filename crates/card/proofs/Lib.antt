@@ -1,2 +1,2 @@
 pub mod Laws
-mod Entries
+pub mod Entries

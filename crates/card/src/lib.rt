@@ -1,10 +1,10 @@
 // The turning of a byte, read from the technicians' card.
 ghost use mathlib.Core.Path.{_≡_};
 ghost use mathlib.Core.Bool.{cond};
-ghost use Rattle.card.specs.Card.{turned, isMirror};
+ghost use Rattle.card.specs.Card.{turned, IsCard, isMirror};
 
 // The card: the nibbles 0 to F in order, the bits of each the other way round.
-const CARD: [u8; 16] = [
+pub const CARD: [u8; 16] = [
     0x0,
     0x8,
     0x4,
@@ -23,20 +23,31 @@ const CARD: [u8; 16] = [
     0xF,
 ];
 
-// A byte, its bits the other way round: each nibble as the card has it, and the two exchanged.
-pub fn turn(byte: u8) -> u8
+// A byte, its bits the other way round: each nibble as the card has it, and the two exchanged. The card is lent: a const that is used
+// is built anew each time, and who turns many bytes builds it once.
+fn turn_by(card: &[u8; 16], byte: u8) -> u8
+    requires { ⌜ IsCard (now card) ⌝ }
     ensures { λ r. ⌜ r ≡ turned 8 byte ⌝ }
 {
     let low = (byte % 16) as usize;
     let high = (byte / 16) as usize;
-    CARD[low] * 16 + CARD[high]
+    card[low] * 16 + card[high]
+}
+
+// The same of one byte.
+pub fn turn(byte: u8) -> u8
+    ensures { λ r. ⌜ r ≡ turned 8 byte ⌝ }
+{
+    let card = CARD;
+    turn_by(&card, byte)
 }
 
 // A byte in the order in which its bits travel: turned where the lowest goes first. The same takes it back.
-pub fn in_order(lsb: bool, byte: u8) -> u8
+pub fn in_order(card: &[u8; 16], lsb: bool, byte: u8) -> u8
+    requires { ⌜ IsCard (now card) ⌝ }
     ensures { λ r. ⌜ r ≡ cond lsb (turned 8 byte) byte ⌝ }
 {
-    if lsb { turn(byte) } else { byte }
+    if lsb { turn_by(card, byte) } else { byte }
 }
 
 // Whether a byte reads the same from both ends.

@@ -6,7 +6,7 @@ use Prim.Native.Nat.{ℕ}
 abbrev pub done : ℕ
 done = 0
 
--- the session is not sound, or its bytes are none
+-- the session is not sound, or its bytes are no session
 abbrev pub badSession : ℕ
 badSession = 1
 
@@ -22,35 +22,35 @@ badMapEntry = 3
 abbrev pub badBank : ℕ
 badBank = 4
 
--- there are too many samples, or a bad one
+-- there are too many samples, or one with a spare bit
 abbrev pub badSamples : ℕ
 badSamples = 5
 
--- the records, or the list of what mending alters, need more room
+-- the records, or the list of what mending alters, need more bytes than are lent
 abbrev pub shortRecords : ℕ
 shortRecords = 6
 
--- an order has no direction or no settings number that there is
+-- the direction or the settings number of an order is too high
 abbrev pub badOrder : ℕ
 badOrder = 7
 
--- an order has no count that there is, or other data than it counts
+-- the count of an order is out of range, or its data not of that length
 abbrev pub badCount : ℕ
 badCount = 8
 
--- an order starts at no address, or its run leaves those of an older chip
+-- an order starts above 0x7FFF; to an older chip: its run leaves 0 to the top
 abbrev pub badStart : ℕ
 badStart = 9
 
--- an order in single instruction writes the configuration before its last byte
+-- a write in single instruction has 0x0000 or 0x0001 anywhere but last
 abbrev pub badSingle : ℕ
 badSingle = 10
 
--- what goes out needs more room
+-- the outgoing buffer is too short
 abbrev pub shortOut : ℕ
 shortOut = 11
 
--- an older chip has no such top, or its map another
+-- the top of an older chip is out of range, or not n less 1
 abbrev pub badTop : ℕ
 badTop = 12
 
@@ -58,7 +58,7 @@ badTop = 12
 abbrev pub flagLost : ℕ
 flagLost = 13
 
--- a list of orders has not the form, or too many
+-- a list ends inside an order, or has one of another form, or too many
 abbrev pub badList : ℕ
 badList = 14
 
@@ -66,7 +66,7 @@ badList = 14
 abbrev pub longSetup : ℕ
 longSetup = 15
 
--- there are not as many words of touched registers as there should be
+-- there are too many words of touched registers, or for a reader too few
 abbrev pub badWords : ℕ
 badWords = 16
 
@@ -74,10 +74,10 @@ badWords = 16
 abbrev pub badChips : ℕ
 badChips = 17
 
--- the map to be mended has no product number that there is
+-- the product number of a map to be mended is 0x0000 or 0xFFFF
 abbrev pub badProduct : ℕ
 badProduct = 18
 
--- the registers that are listed are none or too many, not in order, or some that may not be
+-- the listed registers are none, too many, not strictly rising, or some that may not be listed
 abbrev pub badRegisters : ℕ
 badRegisters = 19

@@ -1,10 +1,11 @@
-// The samples of a run, put into a buffer. Each function here gives the place after what it puts.
+// The samples of a run, put into a buffer. Each function here gives the place after what it puts. Where bits are sent the card is lent.
 ghost use mathlib.Core.Path.{_≡_};
 ghost use mathlib.Core.Bool.{cond, false};
 ghost use mathlib.Core.List.{[]};
 ghost use Prim.Native.Nat.{_+_, _<_, _≤_};
 ghost use lib.ListN.{length, getD};
 ghost use Rattle.bits.specs.Buffer.{Put};
+ghost use Rattle.card.specs.Card.{IsCard};
 ghost use Rattle.chip.specs.declared.Chip.the-variants.{Newer};
 ghost use Rattle.order.specs.Order.{withData, isRead, sentOf, sentBytes};
 ghost use Rattle.order.specs.Samples.{highFirst, bitsOf, clocked, instructionOf, samplesOf};
@@ -12,6 +13,7 @@ ghost use Rattle.order.specs.Number.{sendNumber};
 ghost use Rattle.sender.specs.Run.{runOf, openingSamples, byteSamples, runSamples, closingSamples, wholeSamples};
 use crate::Run;
 use crate::run_of;
+use card::CARD;
 use card::in_order;
 use order::Order;
 use settings::next_address;
@@ -44,11 +46,12 @@ fn put_nibble(x: u8, out: &mut [u8], at: usize) -> usize
 }
 
 // Puts the samples of a byte. Its bits go out highest first; where the lowest goes first, those of the turned byte.
-fn put_eight(lsb: bool, x: u8, out: &mut [u8], at: usize) -> usize
+fn put_eight(card: &[u8; 16], lsb: bool, x: u8, out: &mut [u8], at: usize) -> usize
     requires { ⌜ at + 16 ≤ length (now out) ⌝ }
+    requires { ⌜ IsCard (now card) ⌝ }
     ensures { λ r. ⌜ Put (now (out .entry)) at (clocked (bitsOf lsb 8 x)) r (now (out .exit)) ⌝ }
 {
-    let sent = in_order(lsb, x);
+    let sent = in_order(card, lsb, x);
     let n = put_nibble(sent / 16, out, at);
     put_nibble(sent % 16, out, n)
 }
@@ -61,14 +64,15 @@ fn first_of(lsb: bool, high: u8, low: u8) -> u8
 }
 
 // Puts the samples of sixteen bits: all of them are turned, so the two bytes change places too.
-fn put_sixteen(lsb: bool, x: u16, out: &mut [u8], at: usize) -> usize
+fn put_sixteen(card: &[u8; 16], lsb: bool, x: u16, out: &mut [u8], at: usize) -> usize
     requires { ⌜ at + 32 ≤ length (now out) ⌝ }
+    requires { ⌜ IsCard (now card) ⌝ }
     ensures { λ r. ⌜ Put (now (out .entry)) at (clocked (bitsOf lsb 16 x)) r (now (out .exit)) ⌝ }
 {
     let high = (x / 256) as u8;
     let low = (x % 256) as u8;
-    let n = put_eight(lsb, first_of(lsb, high, low), out, at);
-    put_eight(lsb, first_of(lsb, low, high), out, n)
+    let n = put_eight(card, lsb, first_of(lsb, high, low), out, at);
+    put_eight(card, lsb, first_of(lsb, low, high), out, n)
 }
 
 // The instruction of its bits 14 to 0: bit 15 is 1 for read.
@@ -80,15 +84,16 @@ fn instruction(read: bool, lower: u16) -> u16
 }
 
 // Puts the samples of one byte, with its own instruction before it in single instruction.
-fn put_byte(run: Run, address: u16, byte: u8, out: &mut [u8], at: usize) -> usize
+fn put_byte(card: &[u8; 16], run: Run, address: u16, byte: u8, out: &mut [u8], at: usize) -> usize
     requires { ⌜ (address < 0x8000) × (at + length (byteSamples run address byte) ≤ length (now out)) ⌝ }
+    requires { ⌜ IsCard (now card) ⌝ }
     ensures { λ r. ⌜ Put (now (out .entry)) at (byteSamples run address byte) r (now (out .exit)) ⌝ }
 {
     if run.single {
-        let n = put_sixteen(run.lsb, instruction(run.read, address), out, at);
-        return put_eight(run.lsb, byte, out, n);
+        let n = put_sixteen(card, run.lsb, instruction(run.read, address), out, at);
+        return put_eight(card, run.lsb, byte, out, n);
     }
-    put_eight(run.lsb, byte, out, at)
+    put_eight(card, run.lsb, byte, out, at)
 }
 
 // What goes out in the data bits of byte i.
@@ -100,17 +105,26 @@ fn sent_byte(read: bool, data: &[u8], i: usize) -> u8
 }
 
 // Puts the samples of all bytes of a run, from the start address on.
-fn put_run(run: Run, start: u16, count: usize, data: &[u8], out: &mut [u8], at: usize) -> usize
+fn put_run(
+    card: &[u8; 16],
+    run: Run,
+    start: u16,
+    count: usize,
+    data: &[u8],
+    out: &mut [u8],
+    at: usize,
+) -> usize
     requires { ⌜ start < 0x8000 ⌝ }
     requires { ⌜ length (now «data») ≡ cond (run .read) 0 count ⌝ }
     requires { ⌜ at + length (runSamples run start (sentOf (run .read) count (now «data»))) ≤ length (now out) ⌝ }
+    requires { ⌜ IsCard (now card) ⌝ }
     ensures { λ r. ⌜ Put (now (out .entry)) at (runSamples run start (sentOf (run .read) count (now («data» .entry)))) r (now (out .exit)) ⌝ }
 {
     let mut address = start;
     let mut n = at;
     let mut i: usize = 0;
     while i < count {
-        n = put_byte(run, address, sent_byte(run.read, data, i), out, n);
+        n = put_byte(card, run, address, sent_byte(run.read, data, i), out, n);
         address = next_address(run.ascending, address);
         i += 1;
     }
@@ -118,15 +132,16 @@ fn put_run(run: Run, start: u16, count: usize, data: &[u8], out: &mut [u8], at: 
 }
 
 // Puts the first sample, and but for single instruction the instruction before all bytes, by its bits 14 to 0.
-fn put_opening(run: Run, lower: u16, out: &mut [u8]) -> usize
+fn put_opening(card: &[u8; 16], run: Run, lower: u16, out: &mut [u8]) -> usize
     requires { ⌜ (lower < 0x8000) × (length (openingSamples run lower) ≤ length (now out)) ⌝ }
+    requires { ⌜ IsCard (now card) ⌝ }
     ensures { λ r. ⌜ Put (now (out .entry)) 0 (openingSamples run lower) r (now (out .exit)) ⌝ }
 {
     out[0] = 0x00;
     if run.single {
         return 1;
     }
-    put_sixteen(run.lsb, instruction(run.read, lower), out, 1)
+    put_sixteen(card, run.lsb, instruction(run.read, lower), out, 1)
 }
 
 // Puts the last two samples: SCLK low, and CSB high.
@@ -146,9 +161,11 @@ pub fn put_all(order: Order, lower: u16, data: &[u8], out: &mut [u8]) -> usize
     requires { ⌜ length (wholeSamples (runOf Newer (withData order [])) lower (order .start) (sentBytes (withData order (now «data»)))) ≤ length (now out) ⌝ }
     ensures { λ r. ⌜ Put (now (out .entry)) 0 (wholeSamples (runOf Newer (withData order [])) lower (order .start) (sentBytes (withData order (now («data» .entry))))) r (now (out .exit)) ⌝ }
 {
+    let card = CARD;
     let run = run_of(order);
-    let first = put_opening(run, lower, out);
+    let first = put_opening(&card, run, lower, out);
     let last = put_run(
+        &card,
         run,
         order.start as u16,
         order.count as usize,

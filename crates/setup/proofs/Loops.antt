@@ -1,12 +1,12 @@
 -- The walks over the orders of a list: what is done, with what is still to go, is the whole.
 use mathlib.Core.Path.{_≡_, refl, ap, sym, _∙_}
-use mathlib.Core.Bool.{Bool, true, false, cond}
+use mathlib.Core.Bool.{Bool, true, false, cond, false≢true}
 use mathlib.Core.List.{List, _∷_}
 use Prim.Native.Nat.{ℕ, _+_, _-_, _*_, _≤_, _<_}
 use native.Mathlib.Omega.{arith}
 use native.Mathlib.Nat.{suc-ne-zero}
 use lib.Dec.{eqb}
-use borrow.Author.Tests.{eqb-true}
+use borrow.Author.Tests.{ne-eqb}
 use lib.ListN.{length, drop, length-drop, length-append}
 use Rattle.bits.specs.Buffer.{Put}
 use Rattle.bits.specs.Bytes.{wordAt}
@@ -16,88 +16,92 @@ use Rattle.order.specs.Order.{Order}
 use Rattle.order.specs.Samples.{samplesOf, allSamples}
 use Rattle.order.specs.Number.{sendNumber}
 use Rattle.order.proofs.Laws.{admitted, most-samples, room-enough}
-use Rattle.bits.specs.Tests.{every}
+use Rattle.bits.specs.Tests.{every, unless}
 use Rattle.setup.specs.Form.{wholeTests, listGood}
-use Rattle.setup.specs.Look.{Found}
+use Rattle.setup.specs.Look.{placeNumber, Found}
 use Rattle.setup.specs.Calls.{mostOrders, ordersOf, ownNumber, firstBad, setupNumber}
-use Rattle.setup.proofs.Walk.{Testing, tested-on, tested-all, ToGo, all-to-go, ordersFrom, orderAt, orders-split, orders-end, Next, next-order, none-to-go}
-use Rattle.setup.proofs.Numbers.{no-first, none-bad, passed}
+use Rattle.setup.proofs.Walk.{Testing, too-many, tested-on, tested-all, ToGo, all-to-go, ordersFrom, orderAt, orders-split, orders-end, Next, next-order, none-to-go}
+use Rattle.setup.proofs.Numbers.{held, first-bad, first-good, none-bad, passed}
 
 -- ---- a look over the list: what is found, with what is left, is the whole
 
-pub record Looking (settings : ℕ) (l : List ℕ) (n left bad total : ℕ) : Type 0 where
-  pub form : Testing l n left
-  pub first : cond (eqb bad 0) (firstBad (ordersFrom settings l n left)) bad ≡ firstBad (ordersOf settings l)
-  pub sum : bad ≡ 0 → total + length (allSamples Newer (ordersFrom settings l n left)) ≡ length (allSamples Newer (ordersOf settings l))
+pub record Looking (settings : ℕ) (l : List ℕ) (n left total : ℕ) : Type 0 where
+  pub form : Testing l n left (listGood mostOrders l)
+  pub first : firstBad (ordersFrom settings l n left) ≡ firstBad (ordersOf settings l)
+  pub sum : total + length (allSamples Newer (ordersFrom settings l n left)) ≡ length (allSamples Newer (ordersOf settings l))
   pub most : total + 48003 * left ≤ 3072192
 
-pub look-from : (settings : ℕ) (l : List ℕ) → Looking settings l 0 mostOrders 0 0
+pub look-from : (settings : ℕ) (l : List ℕ) → Looking settings l 0 mostOrders 0
 unfolding ordersOf
-look-from settings l = record { form = record { within = omega arith; rest = refl }; first = refl; sum = λ z. omega arith; most = omega arith }
+look-from settings l = record { form = record { within = omega arith; rest = refl }; first = refl; sum = omega arith; most = omega arith }
 
-module _ {settings : ℕ} {l : List ℕ} {n left bad total : ℕ} (s : Looking settings l n left bad total) where
-  module _ (z : left ≡ 0 → ⊥) (h : n < length l) (w : every (wholeTests (drop n l)) ≡ true) where
-    bad-first : (more : List Order) → firstBad (orderAt settings l n ∷ more) ≡ cond (eqb (ownNumber (orderAt settings l n)) 0) (firstBad more) (ownNumber (orderAt settings l n))
-    unfolding firstBad
-    bad-first more = refl
+-- where the number is 0 an order may stand, stands whole, and is not bad
+pub record Fine (settings : ℕ) (l : List ℕ) (n left : ℕ) : Type 0 where
+  pub some : left ≡ 0 → ⊥
+  pub whole : every (wholeTests (drop n l)) ≡ true
+  pub own : ownNumber (orderAt settings l n) ≡ 0
 
-    still-first : (b : Bool) (more : List Order) → eqb bad 0 ≡ b → cond b (firstBad (orderAt settings l n ∷ more)) bad ≡ firstBad (ordersOf settings l)
-        → cond (eqb (cond b (ownNumber (orderAt settings l n)) bad) 0) (firstBad more) (cond b (ownNumber (orderAt settings l n)) bad) ≡ firstBad (ordersOf settings l)
-    still-first true more e q = sym (bad-first more) ∙ q
-    still-first false more e q = rw e q
+pub fine : (settings : ℕ) (l : List ℕ) (n left : ℕ) → placeNumber settings (drop n l) left ≡ 0 → Fine settings l n left
+fine settings l n left z = go (eqb left 0) refl z
+  where
+    go : (b : Bool) → eqb left 0 ≡ b → cond b 14 (unless (every (wholeTests (drop n l))) 14 (ownNumber (orderAt settings l n))) ≡ 0 → Fine settings l n left
+    go true e h = absurd (suc-ne-zero 13 h)
+    go false e h =
+        let t = held (every (wholeTests (drop n l))) 13 _ h in
+        record { some = λ k. false≢true (sym e ∙ ap (λ (m : ℕ). eqb m 0) k); whole = t .0; own = t .1 }
 
-    pub own-fine : (found : ℕ) → found ≡ cond (eqb bad 0) (ownNumber (orderAt settings l n)) bad → found ≡ 0 → ownNumber (orderAt settings l n) ≡ 0
-    own-fine found e k = no-first bad (ownNumber (orderAt settings l n)) (sym e ∙ k) .1
+module _ {settings : ℕ} {l : List ℕ} {n left total : ℕ} (s : Looking settings l n left total) where
+  module _ (h : n < length l) where
+    split : (left ≡ 0 → ⊥) → ordersFrom settings l n left ≡ orderAt settings l n ∷ ordersFrom settings l (n + 2 + wordAt l n) (left - 1)
+    split z = orders-split settings l n left z h
 
-    pub taken-few : (found taken : ℕ) → found ≡ cond (eqb bad 0) (ownNumber (orderAt settings l n)) bad
-        → taken ≡ cond (eqb found 0) (length (samplesOf Newer (orderAt settings l n))) 0
-        → taken ≤ 48003
-    taken-few found taken e t = go (eqb found 0) refl t
+    module _ (f : Fine settings l n left) (taken : ℕ) (t : taken ≡ length (samplesOf Newer (orderAt settings l n))) where
+      pub taken-few : taken ≤ 48003
+      taken-few = omega (arith, t, most-samples Newer (orderAt settings l n) (admitted Newer _ _ (f .own) .count))
+
+      pub look-on : Looking settings l (n + 2 + wordAt l n) (left - 1) (total + taken)
+      unfolding allSamples
+      look-on =
+          let more = ordersFrom settings l (n + 2 + wordAt l n) (left - 1) in
+          let both : length (allSamples Newer (ordersFrom settings l n left)) ≡ length (samplesOf Newer (orderAt settings l n)) + length (allSamples Newer more) =
+          ap (λ (os : List Order). length (allSamples Newer os)) (split (f .some)) ∙ length-append (samplesOf Newer (orderAt settings l n)) (allSamples Newer more) in
+          record {
+            form = tested-on (s .form) (f .some) h (f .whole);
+            first = sym (ap firstBad (split (f .some)) ∙ first-good (orderAt settings l n) more (f .own)) ∙ s .first;
+            sum = omega (arith, t, both, s .sum);
+            most = omega (arith, taken-few, s .most, f .some);
+          }
+
+    -- a number that is not 0: that of the first bad order, where what is left is good
+    pub looked-bad : (bad number more : ℕ) → bad ≡ placeNumber settings (drop n l) left → (bad ≡ 0 → ⊥)
+        → number ≡ unless (listGood left (drop n l)) 14 bad
+        → Found settings l number more
+    looked-bad bad number more e z q = go (listGood left (drop n l)) refl q
       where
-        go : (b : Bool) → eqb found 0 ≡ b → taken ≡ cond b (length (samplesOf Newer (orderAt settings l n))) 0 → taken ≤ 48003
-        go true q r = omega (arith, r, most-samples Newer (orderAt settings l n) (admitted Newer _ _ (own-fine found e (eqb-true found 0 q)) .count))
-        go false q r = omega (arith, r)
+        good : listGood left (drop n l) ≡ true → listGood mostOrders l ≡ true
+        good g = sym (s .form .rest) ∙ g
 
-    pub look-on : (found taken : ℕ) → found ≡ cond (eqb bad 0) (ownNumber (orderAt settings l n)) bad
-        → taken ≡ cond (eqb found 0) (length (samplesOf Newer (orderAt settings l n))) 0
-        → Looking settings l (n + 2 + wordAt l n) (left - 1) found (total + taken)
-    unfolding allSamples
-    look-on found taken e t =
-        let more = ordersFrom settings l (n + 2 + wordAt l n) (left - 1) in
-        let split = orders-split settings l n left z h in
-        let q : cond (eqb bad 0) (firstBad (orderAt settings l n ∷ more)) bad ≡ firstBad (ordersOf settings l) =
-        ap (λ (os : List Order). cond (eqb bad 0) (firstBad os) bad) (sym split) ∙ s .first in
-        record {
-          form = tested-on l n left (s .form) z h w;
-          first = rw e (still-first (eqb bad 0) more refl q);
-          sum = λ k.
-              let was = no-first bad (ownNumber (orderAt settings l n)) (sym e ∙ k) in
-              let t′ : taken ≡ length (samplesOf Newer (orderAt settings l n)) = rw k at t in
-              let both : length (allSamples Newer (ordersFrom settings l n left)) ≡ length (samplesOf Newer (orderAt settings l n)) + length (allSamples Newer more) =
-              ap (λ (os : List Order). length (allSamples Newer os)) split ∙ length-append (samplesOf Newer (orderAt settings l n)) (allSamples Newer more) in
-              omega (arith, t′, both, s .sum (was .0));
-          most = omega (arith, taken-few found taken e t, s .most);
-        }
+        go : (b : Bool) → listGood left (drop n l) ≡ b → number ≡ unless b 14 bad → Found settings l number more
+        go true g r =
+            let some : left ≡ 0 → ⊥ = λ k. false≢true (too-many (s .form) h k ∙ good g) in
+            let here : ToGo settings l n (ordersFrom settings l n left) = record { left = left; good = g; orders = refl } in
+            let there = next-order here h in
+            let own : placeNumber settings (drop n l) left ≡ ownNumber (orderAt settings l n) = rw (ne-eqb left 0 some, there .whole) in
+            let worst = first-bad (orderAt settings l n) (there .others) (λ k. z (e ∙ own ∙ k)) in
+            record {
+              first = rw (good g) (r ∙ e ∙ own ∙ worst ∙ ap firstBad (sym (there .split)) ∙ s .first);
+              all = λ k. absurd (z (sym r ∙ k));
+            }
+        go false g r = record { first = rw (sym (s .form .rest) ∙ g) r; all = λ k. absurd (suc-ne-zero 13 (sym r ∙ k)) }
 
-  pub looked-all : length l ≤ n → Found settings l bad total
+  pub looked-all : length l ≤ n → Found settings l 0 total
   unfolding firstBad allSamples
   looked-all h =
       let none = orders-end settings l n left h in
-      let q : cond (eqb bad 0) 0 bad ≡ firstBad (ordersOf settings l) = ap (λ (os : List Order). cond (eqb bad 0) (firstBad os) bad) (sym none) ∙ s .first in
       record {
-        first = rw (← tested-all l n left (s .form) h) (same (eqb bad 0) refl q);
-        all = λ k.
-            let e : length (allSamples Newer (ordersFrom settings l n left)) ≡ 0 = ap (λ (os : List Order). length (allSamples Newer os)) none in
-            omega (arith, e, s .sum k);
+        first = rw (← tested-all (s .form) h) (ap firstBad (sym none) ∙ s .first);
+        all = λ k. omega (arith, ap (λ (os : List Order). length (allSamples Newer os)) none, s .sum);
       }
-    where
-      same : (b : Bool) → eqb bad 0 ≡ b → cond b 0 bad ≡ firstBad (ordersOf settings l) → bad ≡ firstBad (ordersOf settings l)
-      same true e q = eqb-true bad 0 e ∙ q
-      same false e q = q
-
--- a list that is no list of whole orders
-pub found-14 : (settings : ℕ) (l : List ℕ) → false ≡ listGood mostOrders l → Found settings l 14 0
-found-14 settings l e = record { first = rw (← e); all = λ k. absurd (suc-ne-zero 13 k) }
 
 -- ---- all orders sent: what is put, with the orders still to go, is the whole
 

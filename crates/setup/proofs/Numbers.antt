@@ -29,7 +29,16 @@ pub none-bad : (o : Order) (os : List Order) → firstBad (o ∷ os) ≡ 0 → (
 unfolding firstBad
 none-bad o os h = no-first (ownNumber o) (firstBad os) h
 
-held : (test : Bool) (n next : ℕ) → unless test (suc n) next ≡ 0 → (test ≡ true) × (next ≡ 0)
+-- the first of some orders decides, or those after it
+pub first-bad : (o : Order) (os : List Order) → (ownNumber o ≡ 0 → ⊥) → ownNumber o ≡ firstBad (o ∷ os)
+unfolding firstBad
+first-bad o os z = no _ (ne-eqb _ _ z) refl
+
+pub first-good : (o : Order) (os : List Order) → ownNumber o ≡ 0 → firstBad (o ∷ os) ≡ firstBad os
+unfolding firstBad
+first-good o os z = rw z
+
+pub held : (test : Bool) (n next : ℕ) → unless test (suc n) next ≡ 0 → (test ≡ true) × (next ≡ 0)
 held true n next h = (refl, h)
 held false n next h = absurd (suc-ne-zero n h)
 

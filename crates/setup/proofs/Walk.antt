@@ -1,6 +1,6 @@
 -- A list walked order by order: to test it, and to do something with each of its orders.
 use mathlib.Core.Path.{_≡_, refl, ap, sym, _∙_}
-use mathlib.Core.Bool.{true, false, _&&_}
+use mathlib.Core.Bool.{Bool, true, false, _&&_}
 use mathlib.Core.List.{List, [], _∷_, map}
 use Prim.Native.Nat.{ℕ, zero, suc, _+_, _-_, _≤_, _<_}
 use native.Mathlib.Omega.{arith}
@@ -15,16 +15,16 @@ use Rattle.setup.specs.Form.{wholeTests, firstListed, afterFirst, withSe
 use Rattle.setup.specs.Calls.{mostOrders, ordersOf}
 use Rattle.setup.proofs.Places.{Stands, stands, after-here}
 
--- what is left of the list decides for all of it
-pub record Testing (l : List ℕ) (n left : ℕ) : Type 0 where
+-- what is left of the list decides whether it is good
+pub record Testing (l : List ℕ) (n left : ℕ) (good : Bool) : Type 0 where
   pub within : n ≤ length l
-  pub rest : listGood left (drop n l) ≡ listGood mostOrders l
+  pub rest : listGood left (drop n l) ≡ good
 
-module _ (l : List ℕ) (n left : ℕ) (w : Testing l n left) where
+module _ {l : List ℕ} {n left : ℕ} {good : Bool} (w : Testing l n left good) where
   some-left : n < length l → eqb (length (drop n l)) 0 ≡ false
   some-left h = ne-eqb (length (drop n l)) 0 (λ e. omega (arith, length-drop n l))
 
-  pub too-many : n < length l → left ≡ 0 → false ≡ listGood mostOrders l
+  pub too-many : n < length l → left ≡ 0 → false ≡ good
   unfolding listGood
   too-many h e = sym (some-left h) ∙ rw e at (w .rest)
 
@@ -34,13 +34,13 @@ module _ (l : List ℕ) (n left : ℕ) (w : Testing l n left) where
       let e : left ≡ suc (left - 1) = omega arith in
       ap (λ (k : ℕ). listGood k (drop n l)) e ∙ rw (some-left h)
 
-  pub not-whole : (left ≡ 0 → ⊥) → n < length l → every (wholeTests (drop n l)) ≡ false → false ≡ listGood mostOrders l
+  pub not-whole : (left ≡ 0 → ⊥) → n < length l → every (wholeTests (drop n l)) ≡ false → false ≡ good
   not-whole z h t = sym (one-more z h ∙ rw t) ∙ w .rest
 
-  pub tested-on : (left ≡ 0 → ⊥) → n < length l → every (wholeTests (drop n l)) ≡ true → Testing l (n + 2 + wordAt l n) (left - 1)
+  pub tested-on : (left ≡ 0 → ⊥) → n < length l → every (wholeTests (drop n l)) ≡ true → Testing l (n + 2 + wordAt l n) (left - 1) good
   tested-on z h t = record { within = stands l n t .within; rest = sym (one-more z h ∙ rw (t, after-here l n)) ∙ w .rest }
 
-  pub tested-all : length l ≤ n → true ≡ listGood mostOrders l
+  pub tested-all : length l ≤ n → true ≡ good
   unfolding listGood
   tested-all h = sym (rw (drop-of-length-le l {i = n} h) (none left)) ∙ w .rest
     where

@@ -1,18 +1,18 @@
 // A whole setup in one call: the orders of a list, each sent after the one before it.
 ghost use mathlib.Core.Path.{_≡_};
-ghost use mathlib.Core.Bool.{cond, true};
+ghost use mathlib.Core.Bool.{true};
 ghost use Prim.Native.Nat.{_≤_};
-ghost use lib.Dec.{eqb};
 ghost use lib.ListN.{length, drop};
 ghost use Rattle.bits.specs.Buffer.{Put};
-ghost use Rattle.bits.specs.Tests.{every};
+ghost use Rattle.bits.specs.Tests.{every, unless};
+ghost use Rattle.numbers.specs.Numbers.{badList};
 ghost use Rattle.chip.specs.declared.Chip.the-variants.{Newer};
 ghost use Rattle.order.specs.Samples.{samplesOf, allSamples};
 ghost use Rattle.order.specs.Number.{sendNumber};
 ghost use Rattle.sender.specs.Calls.{sending};
-ghost use Rattle.setup.specs.Form.{wholeTests, firstListed, withSettings};
+ghost use Rattle.setup.specs.Form.{wholeTests, firstListed, withSettings, listGood};
 ghost use Rattle.setup.specs.Calls.{ordersOf, ownNumber, setupNumber, setupOf};
-ghost use Rattle.setup.specs.Look.{Found};
+ghost use Rattle.setup.specs.Look.{placeNumber, Found};
 
 mod list;
 
@@ -34,8 +34,11 @@ use order::sample_count;
 use sender::Sent;
 use sender::put_samples;
 
-// The most samples of a whole setup; an order by itself never needs as many.
+// The most samples of a whole setup.
 const MOST_SAMPLES: usize = 65536;
+
+// More than an order can need, whatever its count says: the compiler then drops the test for it.
+const ROOM_FOR_ANY: usize = 0x40_0000;
 
 // The number of the order at a place of the list, by itself.
 fn number_at(settings: u64, list: &[u8], at: usize) -> u8
@@ -45,31 +48,52 @@ fn number_at(settings: u64, list: &[u8], at: usize) -> u8
     let from = at + DATA_AT;
     let end = after(list, at);
     let order = order_at(settings, list, at);
-    number_of(Chip::Newer, order, &list[from..end], MOST_SAMPLES)
+    number_of(Chip::Newer, order, &list[from..end], ROOM_FOR_ANY)
 }
 
-// The number of the first bad order up to a place: the one found before it, or that of the order there.
-fn bad_at(bad: u8, settings: u64, list: &[u8], at: usize) -> u8
-    requires { ⌜ every (wholeTests (drop at (now list))) ≡ true ⌝ }
-    ensures { λ r. ⌜ r ≡ cond (eqb bad 0) (ownNumber (withSettings settings (firstListed (drop at (now (list .entry)))))) bad ⌝ }
+// The number at a place with so many orders left: 14 where no order may stand, or none stands whole, and else that of the order.
+fn place_number(settings: u64, list: &[u8], at: usize, left: u8) -> u8
+    requires { ⌜ at ≤ length (now list) ⌝ }
+    ensures { λ r. ⌜ r ≡ placeNumber settings (drop at (now (list .entry))) left ⌝ }
 {
-    if bad != 0 {
-        return bad;
+    if left == 0 {
+        return BAD_LIST;
     }
-    number_at(settings, list, at)
+    if stands_at(list, at) {
+        return number_at(settings, list, at);
+    }
+    BAD_LIST
 }
 
-// How many samples the order at a place takes; 0 where an order is bad.
-fn samples_at(bad: u8, settings: u64, list: &[u8], at: usize) -> usize
+// How many samples the order at a place takes.
+fn samples_at(settings: u64, list: &[u8], at: usize) -> usize
     requires { ⌜ every (wholeTests (drop at (now list))) ≡ true ⌝ }
-    requires { ⌜ (bad ≡ 0 → ownNumber (withSettings settings (firstListed (drop at (now list)))) ≡ 0) ⌝ }
-    ensures { λ r. ⌜ r ≡ cond (eqb bad 0) (length (samplesOf Newer (withSettings settings (firstListed (drop at (now (list .entry))))))) 0 ⌝ }
+    requires { ⌜ ownNumber (withSettings settings (firstListed (drop at (now list)))) ≡ 0 ⌝ }
+    ensures { λ r. ⌜ r ≡ length (samplesOf Newer (withSettings settings (firstListed (drop at (now (list .entry)))))) ⌝ }
 {
-    if bad != 0 {
-        return 0;
-    }
     let order = order_at(settings, list, at);
     sample_count(bit_at(order.settings as u8, 2), order.count as usize)
+}
+
+// Whether whole orders stand from a place on, up to so many, and nothing after them.
+fn good_from(list: &[u8], from: usize, most: u8) -> bool
+    requires { ⌜ from ≤ length (now list) ⌝ }
+    ensures { λ r. ⌜ r ≡ listGood most (drop from (now (list .entry))) ⌝ }
+{
+    let mut at = from;
+    let mut left = most;
+    while at < list.len() {
+        if left == 0 {
+            return false;
+        }
+        if stands_at(list, at) {
+            at = after(list, at);
+            left -= 1;
+        } else {
+            return false;
+        }
+    }
+    true
 }
 
 // What a look over the list finds: 14, or the number of the first bad order, or 0; and then how many samples all orders take.
@@ -78,35 +102,41 @@ struct Looked {
     total: usize,
 }
 
-// Looks over the list in one walk, and changes nothing.
+// What is found where a number is not 0: that number, or 14 for what comes after it.
+fn stopped(bad: u8, list: &[u8], at: usize, left: u8) -> Looked
+    requires { ⌜ at ≤ length (now list) ⌝ }
+    ensures { λ r. ⌜ r .number ≡ unless (listGood left (drop at (now (list .entry)))) badList bad ⌝ }
+{
+    if good_from(list, at, left) {
+        return Looked {
+            number: bad,
+            total: 0,
+        };
+    }
+    Looked {
+        number: BAD_LIST,
+        total: 0,
+    }
+}
+
+// Looks over the list in one walk, up to the first bad order, and changes nothing.
 fn look_over(settings: u64, list: &[u8]) -> Looked
     ensures { λ r. ⌜ Found settings (now (list .entry)) (r .number) (r .total) ⌝ }
 {
     let mut at: usize = 0;
     let mut left: u8 = MOST_ORDERS;
-    let mut bad: u8 = 0;
     let mut total: usize = 0;
     while at < list.len() {
-        if left == 0 {
-            return Looked {
-                number: BAD_LIST,
-                total: 0,
-            };
+        let bad = place_number(settings, list, at, left);
+        if bad != DONE {
+            return stopped(bad, list, at, left);
         }
-        if stands_at(list, at) {
-            bad = bad_at(bad, settings, list, at);
-            total += samples_at(bad, settings, list, at);
-            at = after(list, at);
-            left -= 1;
-        } else {
-            return Looked {
-                number: BAD_LIST,
-                total: 0,
-            };
-        }
+        total += samples_at(settings, list, at);
+        at = after(list, at);
+        left -= 1;
     }
     Looked {
-        number: bad,
+        number: DONE,
         total: total,
     }
 }
@@ -116,7 +146,7 @@ fn setup_number(settings: u64, list: &[u8], room: usize) -> u8
     ensures { λ r. ⌜ r ≡ setupNumber settings (now (list .entry)) room ⌝ }
 {
     let looked = look_over(settings, list);
-    if looked.number != 0 {
+    if looked.number != DONE {
         return looked.number;
     }
     if MOST_SAMPLES < looked.total {
@@ -140,7 +170,8 @@ fn send_at(settings: u64, list: &[u8], at: usize, out: &mut [u8], n: usize) -> u
     n + put_samples(order, &list[from..end], &mut out[n..])
 }
 
-// Sends all orders of a list that is not refused, one after the other.
+// Sends all orders of a list that is not refused, one after the other. The next place is read before anything is put: read after that,
+// it would have to wait.
 fn send_all(settings: u64, list: &[u8], out: &mut [u8]) -> usize
     requires { ⌜ setupNumber settings (now list) (length (now out)) ≡ 0 ⌝ }
     ensures { λ r. ⌜ Put (now (out .entry)) 0 (allSamples Newer (ordersOf settings (now (list .entry)))) r (now (out .exit)) ⌝ }
@@ -148,8 +179,9 @@ fn send_all(settings: u64, list: &[u8], out: &mut [u8]) -> usize
     let mut at: usize = 0;
     let mut n: usize = 0;
     while at < list.len() {
+        let next = after(list, at);
         n = send_at(settings, list, at, out, n);
-        at = after(list, at);
+        at = next;
     }
     n
 }
@@ -159,10 +191,10 @@ pub fn send_setup(settings: u64, list: &[u8], out: &mut [u8]) -> Sent
     ensures { λ r. ⌜ sending (r .number) (r .samples) (now (out .exit)) ≡ setupOf settings (now (list .entry)) (now (out .entry)) ⌝ }
 {
     let number = setup_number(settings, list, out.len());
-    if number == 0 {
+    if number == DONE {
         let samples = send_all(settings, list, out);
         return Sent {
-            number: 0,
+            number: DONE,
             samples: samples,
         };
     }

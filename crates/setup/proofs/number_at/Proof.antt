@@ -5,7 +5,6 @@ use Rattle.chip.specs.declared.Chip.the-variants.{Newer}
 use Rattle.order.specs.Order.{Order}
 use Rattle.order.specs.Number.{sendNumber}
 use Rattle.order.proofs.Laws.{number-alone}
-use Rattle.setup.specs.Calls.{mostSamples}
 use Rattle.setup.proofs.Places.{Stands, stands, data-here}
 use borrow.Author.Needs.{needs}
 use Rattle.setup.proofs.number_at.Statement.{statement}
@@ -41,7 +40,7 @@ returns c =
     let s = c .before .before .before .before .before in
     let o = c .before .before .order-at in
     let here = data-here (o .result) (s .args .settings) (s .args .list .now) (s .args .at) _ (c .before .before .before .after .ensures) (o .ensures) in
-    c .number-of .ensures ∙ ap (λ (order : Order). sendNumber Newer order mostSamples) here ∙ number-alone Newer _ mostSamples (omega arith)
+    c .number-of .ensures ∙ ap (λ (order : Order). sendNumber Newer order 0x400000) here ∙ number-alone Newer _ 0x400000 (omega arith)
 
 pub number-at-spec : {M : Type 1} → statement M
 number-at-spec =

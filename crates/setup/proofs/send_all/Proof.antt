@@ -16,25 +16,25 @@ abbrev μ-loop : tie.MeasureT-loop
 loop-holds : tie.Need-loop-holds Inv-loop μ-loop
 loop-holds c = send-from _ _ _ (c .before .before .pre)
 
+after-requires : tie.Need-after-requires Inv-loop μ-loop
+after-requires c κs = whole-next (c .before .loop .inv .to-go) (c .loop-test .taken)
+
 send-at-requires : tie.Need-send-at-requires Inv-loop μ-loop
 send-at-requires c κs =
-    let i = c .before .before .loop .inv in
-    let h = c .before .loop-test .taken in
+    let i = c .before .before .before .loop .inv in
+    let h = c .before .before .loop-test .taken in
     ((whole-next (i .to-go) h, omega (arith, next-room i h)), next-number i h)
-
-after-requires : tie.Need-after-requires Inv-loop μ-loop
-after-requires c κs = let t = c .before .before .before .before in whole-next (t .before .loop .inv .to-go) (t .loop-test .taken)
 
 loop-less : tie.Need-loop-less Inv-loop μ-loop
 loop-less c =
-    let t = c .before .before .before .before .before in
-    let s = stands-next (t .before .loop .inv .to-go) (t .loop-test .taken) in
-    omega (arith, c .after .ensures)
+    let t = c .before .before .before .before in
+    let s = stands-next (t .before .before .loop .inv .to-go) (t .before .loop-test .taken) in
+    omega (arith, t .after .ensures)
 
 loop-again : tie.Need-loop-again Inv-loop μ-loop
 loop-again c =
-    let t = c .before .before .before .before .before in
-    rw (c .after .ensures) (sent-on (t .before .loop .inv) (t .loop-test .taken) (c .before .before .before .send-at .ensures))
+    let t = c .before .before .before .before in
+    rw (t .after .ensures) (sent-on (t .before .before .loop .inv) (t .before .loop-test .taken) (c .before .before .send-at .ensures))
 
 same-length : tie.Need-same-length Inv-loop μ-loop
 same-length c = c .before .loop .inv .put .same
@@ -49,8 +49,8 @@ send-all-spec =
     Inv-loop
     μ-loop
     loop-holds
-    send-at-requires
     after-requires
+    send-at-requires
     loop-less
     loop-again
     same-length

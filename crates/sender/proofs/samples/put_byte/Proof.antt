@@ -12,15 +12,16 @@ instruction-requires c κs = search needs
 
 put-sixteen-requires : tie.Need-put-sixteen-requires
 put-sixteen-requires c κs =
-    let a = c .before .before .before .before .args in
-    omega (arith, length-single (a .run) (a .address) (a .byte) (c .before .before .if1 .taken))
+    let s = c .before .before .before .before in
+    (omega (arith, length-single (s .args .run) (s .args .address) (s .args .byte) (c .before .before .if1 .taken), s .pre .0 .1), s .pre .1)
 
 put-eight-requires : tie.Need-put-eight-requires
 put-eight-requires c κs =
     let p = c .before .before .before in
-    let a = p .before .before .before .before .before .args in
-    let first = after-bits (a .run .lsb) 16 (p .before .before .instruction .result) (p .put-sixteen .ensures) in
-    omega (arith, length-single (a .run) (a .address) (a .byte) (p .before .before .before .if1 .taken), p .put-sixteen .kept .1 .1 .0)
+    let s = p .before .before .before .before .before in
+    let first = after-bits (s .args .run .lsb) 16 (p .before .before .instruction .result) (p .put-sixteen .ensures) in
+    let whole = length-single (s .args .run) (s .args .address) (s .args .byte) (p .before .before .before .if1 .taken) in
+    (omega (arith, first, whole, p .put-sixteen .kept .1 .1 .1 .0, s .pre .0 .1), s .pre .1)
 
 same-length : tie.Need-same-length
 same-length c = search needs
@@ -34,8 +35,8 @@ returns c =
 
 put-eight-requires-2 : tie.Need-put-eight-requires-2
 put-eight-requires-2 c κs =
-    let a = c .before .before .before .args in
-    omega (arith, length-streaming (a .run) (a .address) (a .byte) (c .before .if1 .left))
+    let s = c .before .before .before in
+    (omega (arith, length-streaming (s .args .run) (s .args .address) (s .args .byte) (c .before .if1 .left), s .pre .0 .1), s .pre .1)
 
 same-length-2 : tie.Need-same-length-2
 same-length-2 c = search needs

@@ -27,12 +27,12 @@ put-sixteen-requires : tie.Need-put-sixteen-requires
 put-sixteen-requires c κs =
     let p = c .before .before in
     let a = p .before .before .args in
-    let room = rw (p .if1 .left) at (p .before .before .pre .1) in
+    let room = rw (p .if1 .left) at (p .before .before .pre .0 .1) in
     let bits : length (clocked (bitsOf (a .run .lsb) 16 (instructionOf (a .run .read) (a .lower)))) ≡ 32 = simp (length-clocked, length-bits) in
-    simp length-set (omega arith)
+    (simp length-set (omega arith), p .before .before .pre .1)
 
 same-length-2 : tie.Need-same-length-2
-same-length-2 c = c .before .before .put-sixteen .kept .1 .1 .0 ∙ simp length-set
+same-length-2 c = c .before .before .put-sixteen .kept .1 .1 .1 .0 ∙ simp length-set
 
 returns-2 : tie.Need-returns-2
 returns-2 c =

@@ -12,18 +12,18 @@ use Rattle.sender.proofs.samples.put_run.Statement.{statement}
 use Rattle.sender.proofs.samples.put_run.Tie as tie
 
 abbrev Inv-loop : tie.InvT-loop
-Inv-loop run start count «data» out₀ at address₀ n₀ i₀ out address n i =
+Inv-loop card run start count «data» out₀ at address₀ n₀ i₀ out address n i =
     (i ≤ count)
     × (address < 0x8000)
     × Putting out₀ at (runSamples run start (sentOf (run .read) count «data»)) (runSamples run address (drop i (sentOf (run .read) count «data»))) n out
 
 abbrev μ-loop : tie.MeasureT-loop
-μ-loop run start count «data» out₀ at address₀ n₀ i₀ out address n i = count - i
+μ-loop card run start count «data» out₀ at address₀ n₀ i₀ out address n i = count - i
 
 loop-holds : tie.Need-loop-holds Inv-loop μ-loop
 loop-holds c =
     let pre = c .before .before .pre in
-    (omega arith, pre .0, begun _ _ _ (pre .1 .1))
+    (omega arith, pre .0, begun _ _ _ (pre .1 .1 .0))
 
 sent-byte-requires : tie.Need-sent-byte-requires Inv-loop μ-loop
 sent-byte-requires c κs = λ t. omega (arith, rw t at (c .before .before .before .before .pre .1 .0))
@@ -33,7 +33,7 @@ put-byte-requires c κs =
     let p = c .before .before .before in
     let s = p .before .before .before in
     let turn = next-byte (s .args .run) (p .loop .address) (s .args .count) (p .loop .i) (s .args .«data» .now) (s .pre .1 .0) (c .before .before .loop-test .taken) in
-    rw (c .before .sent-byte .ensures) (p .loop .inv .1, next-fits (p .loop .inv .2) turn)
+    rw (c .before .sent-byte .ensures) ((p .loop .inv .1, next-fits (p .loop .inv .2) turn), s .pre .1 .1 .1)
 
 next-address-requires : tie.Need-next-address-requires Inv-loop μ-loop
 next-address-requires c κs = search needs

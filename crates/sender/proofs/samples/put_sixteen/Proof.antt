@@ -25,7 +25,7 @@ put-eight-requires-2 : tie.Need-put-eight-requires-2
 put-eight-requires-2 c κs =
     let p = c .before .before .before .before in
     let s = p .before .before .before .before in
-    omega (arith, after-bits (s .args .lsb) 8 (p .before .before .first-of .result) (p .put-eight .ensures), p .put-eight .kept .1 .1 .0, s .pre)
+    (omega (arith, after-bits (s .args .lsb) 8 (p .before .before .first-of .result) (p .put-eight .ensures), p .put-eight .kept .1 .1 .1 .0, s .pre .0), s .pre .1)
 
 same-length : tie.Need-same-length
 same-length c = search needs
