@@ -16,7 +16,7 @@ use Rattle.session.specs.declared.Phase.the-variants.{Rest, Instruction, Data}
 use Rattle.session.specs.declared.Port.{Port}
 use Rattle.session.specs.declared.Event.{Event}
 use Rattle.session.specs.declared.Event.the-variants.{Nothing, Whole, Aborted, Ended}
-use Rattle.session.specs.State.{resting, starting, withLevels, isData, isCounted, mayStall}
+use Rattle.session.specs.State.{atLevels, withLevels, resting, starting, isData, isCounted, mayStall}
 use Rattle.session.specs.Step.{stepOf, csbOf, sclkOf, usedOn, runEnds, withBit, withDataBit, afterByte, settingsOnByte, valueWith, dataLine}
 use Rattle.session.specs.Event.{eventOf, bitEvent, endEvent}
 use Rattle.records.specs.Records.{recordsIn}
@@ -120,18 +120,7 @@ three c s x = at (s .csb) (csbOf x) (s .sclk) (sclkOf x) refl refl refl refl
     at false false true l ec eb ek el = rw (ec, eb, ek) (level-few false (eqb (s .bits) 0) true (sclkOf x))
     at false false false false ec eb ek el = rw (ec, eb, ek, el) (level-few false (eqb (s .bits) 0) false false)
     at false false false true ec eb ek el =
-        let t : Port = record {
-          csb = false;
-          sclk = false;
-          phase = s .phase;
-          bits = s .bits;
-          value = s .value;
-          address = s .address;
-          read = s .read;
-          left = s .left;
-          settings = s .settings;
-          used = s .used;
-        } in
+        let t : Port = atLevels s false false in
         rw (ec, eb, ek, el) (any-bit c (s .phase) t x (Whole (s .read) (s .address) (valueWith s (dataLine c s x))) (omega arith) (behind-le (withBit c (s .phase) t x)))
 
 count-behind : (c : Chip) (s : Port) (xs : List ℕ) → 3 * recordCount c s xs ≤ length xs + behind s

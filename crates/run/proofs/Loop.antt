@@ -13,9 +13,10 @@ use Rattle.chip.specs.Chip.{isNewer}
 use Rattle.session.specs.declared.Port.{Port}
 use Rattle.session.specs.declared.Event.{Event}
 use Rattle.session.specs.declared.Event.the-variants.{Nothing, Whole}
+use Rattle.settings.specs.declared.Settings.{Settings}
 use Rattle.settings.specs.Settings.{nextAddress}
 use Rattle.session.specs.declared.Phase.the-variants.{Rest}
-use Rattle.session.specs.State.{idle, resting, isData, isCounted}
+use Rattle.session.specs.State.{atLevels, idle, resting, isData, isCounted}
 use Rattle.session.specs.Step.{takesBit, entered, settingsOnByte, runsOut, afterByte, stepOf}
 use Rattle.session.specs.Event.{endEvent, eventOf}
 use Rattle.session.proofs.Laws.{fit-sound, byte-lt}
@@ -32,11 +33,22 @@ use Rattle.run.specs.Reach.{reaches}
 use Rattle.run.proofs.Laws.{still-reading}
 use Rattle.run.proofs.Counting.{still-counting}
 use Rattle.run.proofs.Running.{Running}
-use Rattle.run.proofs.Steps.{leveled, started, instructed, settled, restarted, going, goes-on, starts, stalls-here, ends, no-byte, newer-none-left, instruction-whole, byte-whole, bit-passed, enters-newer, enters-older, enters-none, after-single, after-next, after-run, after-run-ends, line-sound, data-by-last}
+use Rattle.run.proofs.Steps.{started, instructed, settled, restarted, going, goes-on, starts, stalls-here, ends, no-byte, newer-none-left, instruction-whole, byte-whole, bit-passed, enters-newer, enters-older, enters-none, after-single, after-next, after-run, after-run-ends, line-sound, data-by-last}
 
 pub running-quiet : {c : Chip} {put : Bool} {m xs : List ℕ} {w₀ : World} {s t : Port} {armed : Bool} {act buf ws old new : List ℕ} {size i j : ℕ}
     → Running c put m xs w₀ (worldOf s armed act buf ws) old new size i → Quiet c xs s i t j → Running c put m xs w₀ (worldOf t armed act buf ws) old new size j
 running-quiet k q = record { counting = still-counting (k .counting) q; reading = λ p. still-reading (k .reading p) q }
+
+-- the line of the port that is reached, as the code finds it
+pub line-now : {c : Chip} {put : Bool} {m xs : List ℕ} {w₀ : World} {t : Port} {armed : Bool} {act buf ws old new : List ℕ} {size i : ℕ}
+    → Running c put m xs w₀ (worldOf t armed act buf ws) old new size i → (line : ℕ) (newer : Bool) → newer ≡ isNewer c → line ≡ cond ((t .read && t .used .sdo) && newer) 3 2
+    → line ≡ lineOf c t
+line-now {c} {t = t} k line newer en el =
+    el ∙ ap (λ (b : Bool). cond {A = ℕ} ((t .read && t .used .sdo) && b) 3 2) en ∙ line-sound c t (k .counting .sound)
+
+-- a byte keeps it
+pub line-kept : (c : Chip) (s : Port) {q : Port} {u : Settings} (last : ℕ) {line : ℕ} → q ≡ settled s u → line ≡ lineOf c (phased s last) → line ≡ lineOf c (phased q last)
+line-kept c s last {line} e el = subst (λ (t : Port). line ≡ lineOf c (phased t last)) (sym e) el
 
 -- a scan has stopped at piece p, on the way from sample i
 pub record Stop (c : Chip) (put : Bool) (m xs : List ℕ) (w₀ : World) (old : List ℕ) (s : Port) (last : ℕ) (armed : Bool) (act buf ws new : List ℕ) (size i : ℕ) (p : Piece) : Type 0 where
@@ -51,17 +63,14 @@ module _ {c : Chip} {put : Bool} {m xs : List ℕ} {w₀ : World} {old : List �
   pub start-stands : Standing xs last (piece level (s .bits) (s .value) i)
   start-stands = start-standing c (phased s last) (piece level (s .bits) (s .value) i) (k .counting .sound) (omega arith) el refl refl sized
 
-  pub stop-line : {line : ℕ} {newer : Bool} → newer ≡ isNewer c → line ≡ cond ((s .read && s .used .sdo) && newer) 3 2 → line ≡ lineOf c (phased s last)
-  stop-line en eb = eb ∙ ap (λ (b : Bool). cond {A = ℕ} ((s .read && s .used .sdo) && b) 3 2) en ∙ line-sound c (phased s last) (k .counting .sound)
-
-  pub stop-at : {line : ℕ} {newer : Bool} {p : Piece} → newer ≡ isNewer c → line ≡ cond ((s .read && s .used .sdo) && newer) 3 2
+  pub stop-at : {line : ℕ} {p : Piece} → line ≡ lineOf c (phased s last)
       → Scanned xs (s .csb) line (s .used .lsb) last (piece level (s .bits) (s .value) i) p → Stop c put m xs w₀ old s last armed act buf ws new size i p
-  stop-at en eb n =
+  stop-at eb n =
       let sound = k .counting .sound in
       record {
         running = k;
         reached =
-            n .carried (record { csb-is = refl; line-is = stop-line en eb; order-is = refl; last-is = sized })
+            n .carried (record { csb-is = refl; line-is = eb; order-is = refl; last-is = sized })
             (own c (piece level (s .bits) (s .value) i) sound (omega arith) el refl refl);
         falls = n .falls;
         stopped = n .stopped;
@@ -91,7 +100,7 @@ module _ {c : Chip} {put : Bool} {m xs : List ℕ} {w₀ : World} {old : List �
 
     -- CSB falls
     module _ (up : s .csb ≡ true) (b : Bool) (eb : b ≡ bitAt (getD xs (p .at) 0) 1) where
-      pub stop-goes-on : (s .left ≡ 0 → ⊥) → Running c put m xs w₀ (worldOf (leveled (held (phased s last) p) false b) armed act buf ws) old new size (p .at + 1)
+      pub stop-goes-on : (s .left ≡ 0 → ⊥) → Running c put m xs w₀ (worldOf (atLevels (held (phased s last) p) false b) armed act buf ws) old new size (p .at + 1)
       stop-goes-on n =
           rw eb (quiet-to (goes-on c (held (phased s last) p) (getD xs (p .at) 0) up (csb-low (getD xs (p .at) 0) (k .falls up h)) (ne-eqb (s .left) 0 n)))
 
@@ -102,7 +111,7 @@ module _ {c : Chip} {put : Bool} {m xs : List ℕ} {w₀ : World} {old : List �
     -- CSB rises
     module _ (down : s .csb ≡ false) (high : getD xs (p .at) 0 % 2 ≡ 1) (b : Bool) (eb : b ≡ bitAt (getD xs (p .at) 0) 1) where
       pub stop-stalls : (isCounted (s .left) && eqb (p .bits) 0) ≡ true
-          → Running c put m xs w₀ (worldOf (leveled (held (phased s last) p) true b) armed act buf ws) old new size (p .at + 1)
+          → Running c put m xs w₀ (worldOf (atLevels (held (phased s last) p) true b) armed act buf ws) old new size (p .at + 1)
       stop-stalls y = rw eb (quiet-to (stalls-here c (held (phased s last) p) (getD xs (p .at) 0) down (csb-high (getD xs (p .at) 0) high) y))
 
       pub stop-ends : (isCounted (s .left) && eqb (p .bits) 0) ≡ false
@@ -199,7 +208,7 @@ module _ {c : Chip} {put : Bool} {m xs : List ℕ} {w₀ : World} {old : List �
 
       -- a bit that is passed over
       pub stop-passes : (last ≡ 15 → ⊥) → (last ≡ 7 → ⊥)
-          → Running c put m xs w₀ (worldOf (leveled (held (phased s last) p) (s .csb) true) armed act buf ws) old new size (p .at + 1)
+          → Running c put m xs w₀ (worldOf (atLevels (held (phased s last) p) (s .csb) true) armed act buf ws) old new size (p .at + 1)
       stop-passes n o =
           let d : phaseOf last ≡ Rest = rw (ne-eqb last 15 n, ne-eqb last 7 o) refl in
           quiet-to (

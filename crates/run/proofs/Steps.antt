@@ -17,7 +17,7 @@ use Rattle.session.specs.declared.Phase.{Phase}
 use Rattle.session.specs.declared.Phase.the-variants.{Rest, Instruction, Data}
 use Rattle.session.specs.declared.Port.{Port}
 use Rattle.session.specs.declared.Event.the-variants.{Nothing, Whole}
-use Rattle.session.specs.State.{idle, resting, isData, isCounted, mayStall, soundPort}
+use Rattle.session.specs.State.{atLevels, withPhase, withBits, atAddress, withSettings, idle, resting, isData, isCounted, mayStall, soundPort}
 use Rattle.session.specs.Step.{csbOf, sclkOf, takesBit, entered, withInstructionBit, settingsOnByte, runsOut, afterByte, withDataBit, stepOf}
 use Rattle.session.specs.Event.{bitEvent, endEvent, eventOf}
 use Rattle.session.proofs.Form.{Form, rests, instructs, has-data, stalls, passes, sound-form}
@@ -26,95 +26,25 @@ use Rattle.trace.proofs.Pieces.{on-line}
 use Rattle.run.specs.Phased.{phaseOf, phased}
 use Rattle.run.specs.Reach.{reaches}
 
--- a port with other levels
-abbrev pub leveled : Port → Bool → Bool → Port
-leveled t csb sclk = record {
-  csb = csb;
-  sclk = sclk;
-  phase = t .phase;
-  bits = t .bits;
-  value = t .value;
-  address = t .address;
-  read = t .read;
-  settings = t .settings;
-  used = t .used;
-  left = t .left;
-}
-
 -- an instruction starts
 abbrev pub started : Port → Bool → Port
-started t sclk = record {
-  csb = false;
-  sclk = sclk;
-  phase = Instruction;
-  bits = t .bits;
-  value = t .value;
-  address = t .address;
-  read = t .read;
-  settings = t .settings;
-  used = inUseOf (t .settings);
-  left = t .left;
-}
+started t sclk = withSettings (withPhase (atLevels t false sclk) Instruction) (t .settings) (inUseOf (t .settings))
 
 -- the last bit of an instruction
 abbrev pub instructed : Port → ℕ → ℕ → ℕ → Port
-instructed t v address left = record {
-  csb = t .csb;
-  sclk = true;
-  phase = Data;
-  bits = 0;
-  value = 0;
-  address = address;
-  read = leb 0x8000 v;
-  settings = t .settings;
-  used = t .used;
-  left = left;
-}
+instructed t v address left = atAddress (withBits (withPhase (atLevels t (t .csb) true) Data) 0 0) address (leb 0x8000 v) left
 
 -- the last bit of a byte, with the settings after it
 abbrev pub settled : Port → Settings → Port
-settled t u = record {
-  csb = t .csb;
-  sclk = true;
-  phase = t .phase;
-  bits = 0;
-  value = 0;
-  address = t .address;
-  read = t .read;
-  settings = u;
-  used = t .used;
-  left = t .left;
-}
+settled t u = withSettings (withBits (atLevels t (t .csb) true) 0 0) u (t .used)
 
 -- then a new instruction
 abbrev pub restarted : Port → Port
-restarted q = record {
-  csb = q .csb;
-  sclk = q .sclk;
-  phase = Instruction;
-  bits = q .bits;
-  value = q .value;
-  address = 0;
-  read = false;
-  settings = q .settings;
-  used = inUseOf (q .settings);
-  left = q .left;
-}
+restarted q = withSettings (atAddress (withPhase q Instruction) 0 false (q .left)) (q .settings) (inUseOf (q .settings))
 
 -- or more data
 abbrev pub going : Port → ℕ → ℕ → Port
-going q address left = record {
-  csb = q .csb;
-  sclk = q .sclk;
-  phase = q .phase;
-  bits = q .bits;
-  value = q .value;
-  address = address;
-  read = q .read;
-  settings = q .settings;
-  used = q .used;
-  left = left;
-}
+going q address left = atAddress q address (q .read) left
 
 start-form : {c : Chip} {t : Port} → Form c t → (x : ℕ) → t .csb ≡ true → csbOf x ≡ false → eqb (t .left) 0 ≡ true → stepOf c t x ≡ started t (bitAt x 1)
 unfolding stepOf
@@ -127,7 +57,7 @@ start-form (passes k t e) x up low none = absurd (false≢true up)
 module _ (c : Chip) (t : Port) (x : ℕ) where
   -- CSB falls
   module _ (up : t .csb ≡ true) (low : csbOf x ≡ false) where
-    pub goes-on : eqb (t .left) 0 ≡ false → (stepOf c t x ≡ leveled t false (bitAt x 1)) × (eventOf c t x ≡ Nothing)
+    pub goes-on : eqb (t .left) 0 ≡ false → (stepOf c t x ≡ atLevels t false (bitAt x 1)) × (eventOf c t x ≡ Nothing)
     unfolding stepOf eventOf
     goes-on some = (rw (up, low, some) refl, rw up refl)
 
@@ -137,7 +67,7 @@ module _ (c : Chip) (t : Port) (x : ℕ) where
 
   -- CSB rises
   module _ (down : t .csb ≡ false) (high : csbOf x ≡ true) where
-    pub stalls-here : mayStall t ≡ true → (stepOf c t x ≡ leveled t true (bitAt x 1)) × (eventOf c t x ≡ Nothing)
+    pub stalls-here : mayStall t ≡ true → (stepOf c t x ≡ atLevels t true (bitAt x 1)) × (eventOf c t x ≡ Nothing)
     unfolding stepOf eventOf
     stalls-here m = (rw (down, high, m) refl, rw (down, high, m) refl)
 
@@ -174,7 +104,7 @@ byte-form (stalls k a r l t u f e d) x b q z = absurd (false≢true b)
 byte-form (passes k t e) x b d n = let z = ap lastOf d in absurd (omega (arith, z))
 
 -- a bit that is passed over
-passed-form : {c : Chip} {t : Port} → Form c t → (x : ℕ) → takesBit t x ≡ true → t .phase ≡ Rest → stepOf c t x ≡ leveled t (t .csb) true
+passed-form : {c : Chip} {t : Port} → Form c t → (x : ℕ) → takesBit t x ≡ true → t .phase ≡ Rest → stepOf c t x ≡ atLevels t (t .csb) true
 unfolding stepOf
 passed-form (rests k t) x b d = absurd (false≢true b)
 passed-form (instructs k n v t u g f) x b d = let z = ap lastOf d in absurd (omega (arith, z))
@@ -207,7 +137,7 @@ module _ (c : Chip) (t : Port) (f : soundPort c t ≡ true) where
         (eventOf c t x ≡ Whole (t .read) (t .address) v) × (stepOf c t x ≡ afterByte c t (settingsOnByte c t v))
     byte-whole = byte-form (sound-form c t f) x b
 
-    pub bit-passed : t .phase ≡ Rest → stepOf c t x ≡ leveled t (t .csb) true
+    pub bit-passed : t .phase ≡ Rest → stepOf c t x ≡ atLevels t (t .csb) true
     bit-passed = passed-form (sound-form c t f) x b
 
 -- What a whole instruction enters, field by field.
@@ -295,13 +225,7 @@ pub sized-by : (p : Phase) {last : ℕ} → last ≡ lastOf p → last ≡ lastO
 sized-by p e = e ∙ sym (ap lastOf (phase-by p e))
 
 pub phased-by : (t : Port) {last : ℕ} → last ≡ lastOf (t .phase) → phased t last ≡ t
-phased-by t e =
-    ap (λ (p : Phase). record { csb = t .csb; sclk = t .sclk; phase = p; bits = t .bits; value = t .value; address = t .address; read = t .read; settings = t .settings; used = t .used; left = t .left })
-    (phase-by (t .phase) e)
-
-pub line-lt : (b : Bool) → cond b 3 2 < 4
-line-lt true = omega arith
-line-lt false = omega arith
+phased-by t e = ap (withPhase t) (phase-by (t .phase) e)
 
 pub data-by-last : (last : ℕ) → isData (phaseOf last) ≡ eqb last 7
 data-by-last last = by (eqb last 15) (eqb last 7) refl refl

@@ -74,11 +74,16 @@ fn pass_event(
     }
 }
 
-// The line that bits come from, as its place in a sample: SDO or SDIO.
+// The lines that bits come from, as their places in a sample.
+const SDIO: u8 = 2;
+
+const SDO: u8 = 3;
+
+// The line that bits come from.
 fn line_at(sdo: bool) -> u8
     ensures { λ r. ⌜ r ≡ cond sdo 3 2 ⌝ }
 {
-    if sdo { 3 } else { 2 }
+    if sdo { SDO } else { SDIO }
 }
 
 // Takes the end of a frame, or only counts its record where none is put.
@@ -174,7 +179,7 @@ fn phased(s: Port, last: u8) -> Port
 
 // Reads samples; or only counts their records where none is put. This is the one hot loop: what it calls has no other caller, so that
 // the compiler can keep the session in registers, and it sets fields where a port anew would be copied. The port's phase is told by
-// `last`, how many bits come before the last of a piece.
+// `last`, how many bits come before the last of a piece, and `line` is the line that its bits come from.
 pub fn run_samples(
     chip: Chip,
     put: bool,
@@ -194,6 +199,7 @@ pub fn run_samples(
     let phase = s.phase;
     let mut last = last_of(phase);
     let newer = is_newer(chip);
+    let mut line = line_at(s.read & s.used.sdo & newer);
     let mut at: usize = 0;
     let mut i: usize = 0;
     while i < samples.len() {
@@ -203,7 +209,6 @@ pub fn run_samples(
             value: s.value,
             at: i,
         };
-        let line = line_at(s.read & s.used.sdo & newer);
         let p = next_stop(s.csb, samples, from, line, s.used.lsb, last);
         s.sclk = p.level == 2;
         s.bits = p.bits;
@@ -222,6 +227,7 @@ pub fn run_samples(
                 continue;
             }
             last = 15;
+            line = SDIO;
             let lsb = s.settings.lsb;
             s.used.lsb = lsb;
             let ascending = s.settings.ascending;
@@ -265,6 +271,7 @@ pub fn run_samples(
             s.value = 0;
             s.read = 0x8000 <= value;
             last = 7;
+            line = line_at(s.read & s.used.sdo & newer);
             if newer {
                 s.address = value % 0x8000;
                 continue;
@@ -311,6 +318,7 @@ pub fn run_samples(
             if newer {
                 if s.used.single {
                     last = 15;
+                    line = SDIO;
                     s.address = 0;
                     s.read = false;
                     let lsb = s.settings.lsb;
@@ -338,6 +346,7 @@ pub fn run_samples(
         }
         // The frame has ended, or the rest of it is passed over.
         last = 0;
+        line = SDIO;
         s.bits = 0;
         s.value = 0;
         s.address = 0;

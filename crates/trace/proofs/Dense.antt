@@ -14,12 +14,14 @@ use lib.Pow.{pow-mono}
 use Rattle.bits.specs.Bits.{bitAt, bitOf, shiftedIn}
 use Rattle.card.specs.Card.{turned}
 use Rattle.words.specs.Words.{wordOf}
-use Rattle.words.specs.Lanes.{nibble}
+use Rattle.words.specs.Lanes.{levelsIn, levelIn, risesIn, nibble}
+use Rattle.words.proofs.Lanes.{clock-mask, lows-all, dense-lanes}
+use Rattle.words.proofs.Samples.{level-in}
 use Rattle.words.proofs.Seconds.{lane-bit}
 use Rattle.trace.specs.declared.scan.Piece.{Piece}
 use Rattle.trace.specs.declared.scan.Bits.{Bits}
-use Rattle.trace.specs.Scan.{Standing, Masked, Gathered, Filled, shiftedThree, shiftedFour}
-use Rattle.trace.proofs.Onward.{taken, Rise, gathered-begun, next-rise, gathered-more}
+use Rattle.trace.specs.Scan.{piece, Standing, Took, Masked, Gathered, Filled, shiftedThree, shiftedFour}
+use Rattle.trace.proofs.Onward.{taken, Rise, Going, going-begun, going-join, took-join, took-rise, word-passed, gathered-begun, next-rise, gathered-more}
 
 -- ---- the value
 
@@ -192,3 +194,67 @@ nibble-lt a b c d = by (bitOf a) (bitOf b) (bitOf c) (bitOf d) (bit-lt a) (bit-l
 
 pub word-nibble-lt : (x w line : ℕ) → x ≡ nibble (bitAt w (8 + line)) (bitAt w (24 + line)) (bitAt w (40 + line)) (bitAt w (56 + line)) → x < 16
 word-nibble-lt x w line e = rw e (nibble-lt (bitAt w (8 + line)) (bitAt w (24 + line)) (bitAt w (40 + line)) (bitAt w (56 + line)))
+
+-- ---- words
+
+masked : {xs : List ℕ} {p : Piece} → p .at + 8 ≤ length xs → levelsIn 8 (wordOf xs (p .at) 8) ≡ 0x0200020002000200 → Masked xs p 0x0200020002000200
+masked {xs} {p} room dense =
+    let w = wordOf xs (p .at) 8 in
+    let d = dense-lanes (p .level) w dense in
+    record { room = room; mask = sym (ap (λ (k : ℕ). risesIn k (p .level) w) (lows-all 8 w (d .0)) ∙ d .1) }
+
+module _ {xs : List ℕ} (bytes : (k : ℕ) → getD xs k 0 < 256) {line : ℕ} {lsb : Bool} {last : ℕ} {p : Piece} (s : Standing xs last p) (room : p .at + 8 ≤ length xs)
+    (dense : levelsIn 8 (wordOf xs (p .at) 8) ≡ 0x0200020002000200) where
+  -- four bits of eight samples
+  four-passed : p .bits + 3 < last → {v : ℕ} → v ≡ shiftedFour lsb (p .value) (p .bits) (levelOf xs line (p .at) 1) (levelOf xs line (p .at) 3) (levelOf xs line (p .at) 5) (levelOf xs line (p .at) 7)
+      → Going xs line lsb last p (piece 2 (p .bits + 4) v (p .at + 8))
+  unfolding levelIn
+  four-passed h {v} e =
+      let d = dense-lanes (p .level) (wordOf xs (p .at) 8) dense in
+      let two = clock-mask (getD xs (p .at + 7) 0) ∙ sym (level-in xs bytes 7 8 (p .at) 2 (omega arith)) ∙ d .2 in
+      subst (λ (l : ℕ). Going xs line lsb last p (piece l (p .bits + 4) v (p .at + 8))) two
+      (word-passed bytes (going-begun s) room (dense-four bytes s (masked room dense) refl h refl e) refl (d .0))
+
+  -- the last three before the last bit
+  three-taken : p .bits + 3 ≡ last → {v : ℕ} → v ≡ shiftedThree lsb (p .value) (p .bits) (levelOf xs line (p .at) 1) (levelOf xs line (p .at) 3) (levelOf xs line (p .at) 5)
+      → Took xs line lsb last p (piece 0 last v (p .at + 7))
+  unfolding trailingZeros
+  three-taken h e = took-rise bytes (going-begun s) room (dense-three bytes s (masked room dense) refl h e) (λ z. omega (arith, z)) 7 refl
+
+-- what a value with four more bits is, and with the first three of them
+abbrev Four : Bool → ℕ → ℕ → ℕ → ℕ → Type 0
+Four lsb v n more r = (a b c d : Bool) → more ≡ nibble a b c d → r ≡ shiftedFour lsb v n a b c d
+
+abbrev Three : Bool → ℕ → ℕ → ℕ → ℕ → Type 0
+Three lsb v n more r = (a b c d : Bool) → more ≡ nibble a b c d → r ≡ shiftedThree lsb v n a b c
+
+-- the four bits of a word
+abbrev NibbleOf : ℕ → ℕ → ℕ → Type 0
+NibbleOf w line x = x ≡ nibble (bitAt w (8 + line)) (bitAt w (24 + line)) (bitAt w (40 + line)) (bitAt w (56 + line))
+
+-- sixteen samples of eight bits
+module _ {xs : List ℕ} (bytes : (k : ℕ) → getD xs k 0 < 256) {line : ℕ} (h : line < 4) {lsb : Bool} {last : ℕ} {p₀ p : Piece} (g : Going xs line lsb last p₀ p) (room : p .at + 16 ≤ length xs)
+    {w u : ℕ} (ew : w ≡ wordOf xs (p .at) 8) (eu : u ≡ wordOf xs (p .at + 8) 8) (dw : levelsIn 8 w ≡ 0x0200020002000200) (du : levelsIn 8 u ≡ 0x0200020002000200)
+    (few : p .bits + 7 ≤ last) {x v : ℕ} (ex : NibbleOf w line x) (ev : Four lsb (p .value) (p .bits) x v) where
+  pub half : Going xs line lsb last p₀ (piece 2 (p .bits + 4) v (p .at + 8))
+  half =
+      let l = levelOf xs line (p .at) in
+      going-join g (four-passed bytes (g .standing) (omega arith) (ap (levelsIn 8) (sym ew) ∙ dw) (omega arith) (ev (l 1) (l 3) (l 5) (l 7) (ex ∙ nibble-at xs bytes w (p .at) line ew h)))
+
+  module _ {y z : ℕ} (ey : NibbleOf u line y) where
+    pub seven-taken : p .bits + 7 ≡ last → Three lsb v (p .bits + 4) y z → Took xs line lsb last p₀ (piece 0 last z (p .at + 15))
+    seven-taken e ez =
+        let l = levelOf xs line (p .at + 8) in
+        let a : p .at + 8 + 7 ≡ p .at + 15 = omega arith in
+        subst (λ (k : ℕ). Took xs line lsb last p₀ (piece 0 last z k)) a
+        (took-join half
+        (three-taken bytes (half .standing) (omega arith) (ap (levelsIn 8) (sym eu) ∙ du) (omega (arith, e)) (ez (l 1) (l 3) (l 5) (l 7) (ey ∙ nibble-at xs bytes u (p .at + 8) line eu h))))
+
+    pub eight-passed : (p .bits + 7 ≡ last → ⊥) → Four lsb v (p .bits + 4) y z → Going xs line lsb last p₀ (piece 2 (p .bits + 8) z (p .at + 16))
+    eight-passed n ez =
+        let l = levelOf xs line (p .at + 8) in
+        let a : p .at + 8 + 8 ≡ p .at + 16 = omega arith in
+        let b : p .bits + 4 + 4 ≡ p .bits + 8 = omega arith in
+        subst (λ (q : Piece). Going xs line lsb last p₀ q) (λ t. piece 2 (b t) z (a t))
+        (going-join half
+        (four-passed bytes (half .standing) (omega arith) (ap (levelsIn 8) (sym eu) ∙ du) (omega (arith, n)) (ez (l 1) (l 3) (l 5) (l 7) (ey ∙ nibble-at xs bytes u (p .at + 8) line eu h))))

@@ -1,5 +1,6 @@
 pub mod Paths
 pub mod Pieces
 pub mod Onward
+mod Resting
 mod Dense
 pub mod Scanning

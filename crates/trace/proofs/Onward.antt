@@ -17,14 +17,15 @@ use Rattle.session.specs.declared.Phase.the-variants.{Rest, Instruction, Data}
 use Rattle.session.specs.declared.Port.{Port}
 use Rattle.session.specs.State.{widthOf, soundPort}
 use Rattle.session.proofs.Laws.{fit-sound}
-use Rattle.words.specs.Words.{wordOf, PastHigh}
-use Rattle.words.specs.Lanes.{clockOf, Level, highsIn, lowsIn, risesIn}
+use Rattle.words.specs.Words.{wordOf}
+use Rattle.words.specs.Lanes.{clockOf, Level, highsIn, lowsIn, levelIn, risesIn}
 use Rattle.words.proofs.Lanes.{clock-level, clock-mask, zeros-lowest, without-lowest, lows-le, lows-all, lows-full}
-use Rattle.words.proofs.Samples.{rises-sample, lows-low, lows-high}
+use Rattle.words.proofs.Samples.{rises-sample, lows-low, lows-high, level-in}
 use Rattle.trace.specs.declared.scan.Piece.{Piece}
 use Rattle.trace.specs.declared.scan.Bits.{Bits}
+use Rattle.trace.specs.declared.high.Past.{Past}
 use Rattle.trace.specs.Piece.{lastOf, lineOf, Reached}
-use Rattle.trace.specs.Scan.{piece, Serves, Onward, Standing, Took, Suits, Scanned, levelAfter, lowsAt, Masked, Gathered, Filled}
+use Rattle.trace.specs.Scan.{piece, Serves, Onward, Standing, Took, Suits, Scanned, levelAfter, Rested, lowsAt, Masked, Gathered, Filled}
 use Rattle.trace.proofs.Pieces.{idle, bit, past-high}
 
 module _ {xs : List ℕ} {line : ℕ} {lsb : Bool} {last : ℕ} where
@@ -70,6 +71,9 @@ pub going-begun : {xs : List ℕ} {line : ℕ} {lsb : Bool} {last : ℕ} {p : Pi
 going-begun s = record { onward = still-there; standing = s }
 
 module _ {xs : List ℕ} {line : ℕ} {lsb : Bool} {last : ℕ} {p q : Piece} (g : Going xs line lsb last p q) where
+  pub going-join : {r : Piece} → Going xs line lsb last q r → Going xs line lsb last p r
+  going-join h = record { onward = onward-join (g .onward) (h .onward); standing = h .standing }
+
   pub going-idle : q .at < length xs → getD xs (q .at) 0 % 2 ≡ 0 → getD xs (q .at) 0 % 4 ≤ q .level
       → Going xs line lsb last p (piece (getD xs (q .at) 0 % 4) (q .bits) (q .value) (q .at + 1))
   going-idle h e k = record { onward = onward-join (g .onward) (onward-idle q h e k); standing = standing-idle (g .standing) h e }
@@ -204,7 +208,7 @@ module _ {xs : List ℕ} (bytes : (k : ℕ) → getD xs k 0 < 256) {line : ℕ} 
       (subst (λ (z : Piece). Onward xs line lsb last q z) (λ t. piece (level-shift xs (p .at) (p .level) n e t) (p .bits) (p .value) (a t)) r)
 
 -- the level after some samples, and after others
-level-join : (xs : List ℕ) (i l j n : ℕ) → levelAfter xs (i + j) (levelAfter xs i l j) n ≡ levelAfter xs i l (j + n)
+pub level-join : (xs : List ℕ) (i l j n : ℕ) → levelAfter xs (i + j) (levelAfter xs i l j) n ≡ levelAfter xs i l (j + n)
 unfolding levelAfter
 level-join xs i l j zero = ap (levelAfter xs i l) (sym (add-zero j))
 level-join xs i l j (suc n) =
@@ -336,7 +340,7 @@ module _ {xs : List ℕ} (bytes : (k : ℕ) → getD xs k 0 < 256) {line : ℕ} 
       let s = level-join xs i (p .level) j (n - j) ∙ ap (levelAfter xs i (p .level)) b in
       onward-join (g .onward) (subst (λ (y : Piece). Onward xs line lsb last (piece l (r .bits) (r .value) (i + j)) y) (λ t. piece (s t) (r .bits) (r .value) (a t)) o)
 
-level-good : (xs : List ℕ) (i l n : ℕ) → Level l → Level (levelAfter xs i l n)
+pub level-good : (xs : List ℕ) (i l n : ℕ) → Level l → Level (levelAfter xs i l n)
 unfolding levelAfter
 level-good xs i l zero h = h
 level-good xs i l (suc n) h = clock-level (getD xs (i + n) 0)
@@ -345,6 +349,12 @@ level-good xs i l (suc n) h = clock-level (getD xs (i + n) 0)
 level-eight : (xs : List ℕ) (i l : ℕ) → levelAfter xs i l 8 ≡ bitAnd (getD xs (i + 7) 0) 2
 unfolding levelAfter
 level-eight xs i l = sym (clock-mask (getD xs (i + 7) 0))
+
+-- and after fewer, by the word that they are
+pub level-word : (xs : List ℕ) → ((k : ℕ) → getD xs k 0 < 256) → (k i l : ℕ) → k ≤ 8 → levelIn k l (wordOf xs i 8) ≡ levelAfter xs i l k
+unfolding levelIn levelAfter
+level-word xs bytes zero i l h = refl
+level-word xs bytes (suc k) i l h = level-in xs bytes k 8 i l h
 
 -- ---- one word of a scan
 
@@ -386,12 +396,12 @@ module _ {xs : List ℕ} (bytes : (k : ℕ) → getD xs k 0 < 256) {line : ℕ} 
 
   -- it ends where CSB is high
   pub took-before-high : b .rising ≡ 0 → (highsIn 8 (wordOf xs (p .at) 8) ≡ 0 → ⊥) → (k l : ℕ) → k ≡ lowsAt xs (p .at)
-      → l ≡ levelAfter xs (p .at) (p .level) (p .at + k - p .at) → Took xs line lsb last p₀ (piece l (b .bits) (b .value) (p .at + k))
+      → l ≡ levelIn k (p .level) (wordOf xs (p .at) 8) → Took xs line lsb last p₀ (piece l (b .bits) (b .value) (p .at + k))
   took-before-high none some k l ek el =
-      let d : p .at + k - p .at ≡ k = omega arith in
+      let few = lows-le 8 (wordOf xs (p .at) 8) in
       let full : lowsAt xs (p .at) ≡ 8 → ⊥ = λ (z : lowsAt xs (p .at) ≡ 8). some (lows-full 8 (wordOf xs (p .at) 8) z) in
-      let up = lows-high xs bytes 8 (p .at) (omega (arith, full, lows-le 8 (wordOf xs (p .at) 8))) in
-      took-high (passed none k l ek (el ∙ ap (levelAfter xs (p .at) (p .level)) d)) (rw ek up)
+      let up = lows-high xs bytes 8 (p .at) (omega (arith, full, few)) in
+      took-high (passed none k l ek (el ∙ level-word xs bytes k (p .at) (p .level) (omega (arith, ek, few)))) (rw ek up)
 
 -- ---- the port itself as a piece
 
@@ -400,32 +410,32 @@ last-bits Rest n h = (omega arith, omega arith)
 last-bits Instruction n h = (omega arith, omega arith)
 last-bits Data n h = (omega arith, omega arith)
 
+pub port-level : (sclk : Bool) → Level (cond sclk 2 0)
+port-level true = record { even = refl; small = omega arith }
+port-level false = record { even = refl; small = omega arith }
+
 pub start-standing : (c : Chip) (s : Port) {xs : List ℕ} {last : ℕ} (p : Piece) → soundPort c s ≡ true → p .at ≤ length xs
     → p .level ≡ cond (s .sclk) 2 0 → p .bits ≡ s .bits → p .value ≡ s .value → last ≡ lastOf (s .phase) → Standing xs last p
 start-standing c s p f h el eb ev ea =
     let k = fit-sound c s f in
     let b = last-bits (s .phase) (s .bits) (k .unfinished) in
     record {
-      level = rw el (level-of (s .sclk));
+      level = rw el (port-level (s .sclk));
       within = h;
       few = omega (arith, b .0, ea, eb);
       short = omega (arith, b .1, ea);
       small = rw (eb, ev) (k .small);
     }
-  where
-    level-of : (b : Bool) → Level (cond b 2 0)
-    level-of true = record { even = refl; small = omega arith }
-    level-of false = record { even = refl; small = omega arith }
 
 -- ---- a scan by CSB
 
-pub scan-high : {xs : List ℕ} {csb : Bool} {line : ℕ} {lsb : Bool} {last : ℕ} (p : Piece) (j l : ℕ) → csb ≡ true → PastHigh xs (p .at) j
-    → l ≡ levelAfter xs (p .at) (p .level) (j - p .at) → Scanned xs csb line lsb last p (piece l (p .bits) (p .value) j)
-scan-high {xs} {csb} p j l up h el = record {
-  ahead = h .high .ahead;
-  within = h .high .within;
-  carried = λ v r. rw el (past-high _ (sym (v .csb-is) ∙ up) p j r (h .high));
-  falls = λ e. h .falls;
+pub scan-high : {xs : List ℕ} {csb : Bool} {line : ℕ} {lsb : Bool} {last : ℕ} (p : Piece) (q : Past) → csb ≡ true → Rested xs (p .level) (p .at) q
+    → Scanned xs csb line lsb last p (piece (q .level) (p .bits) (p .value) (q .at))
+scan-high p q up h = record {
+  ahead = h .past .high .ahead;
+  within = h .past .high .within;
+  carried = λ v r. rw (h .level-is) (past-high _ (sym (v .csb-is) ∙ up) p (q .at) r (h .past .high));
+  falls = λ e. h .past .falls;
   stopped = λ e. absurd (true≢false (sym up ∙ e));
 }
 

@@ -19,7 +19,7 @@ use Rattle.session.specs.declared.Phase.the-variants.{Rest, Instruction, Data}
 use Rattle.session.specs.declared.Port.{Port}
 use Rattle.session.specs.declared.Event.{Event}
 use Rattle.session.specs.declared.Event.the-variants.{Nothing}
-use Rattle.session.specs.State.{isData, soundPort, withLevels}
+use Rattle.session.specs.State.{atLevels, withBits, withLevels, isData, soundPort}
 use Rattle.session.specs.Step.{csbOf, sclkOf, csbFalls, csbRises, frameStarts, frameEnds, takesBit, valueWith, usedOn, withInstructionBit, withDataBit, stepOf}
 use Rattle.session.specs.Event.{bitEvent, eventOf}
 use Rattle.session.proofs.Form.{Form, rests, instructs, has-data, stalls, passes, sound-form}
@@ -111,18 +111,7 @@ module _ (c : Chip) where
 
   -- one bit more, which is not the last of its piece
   abbrev bitTaken : Port → ℕ → Port
-  bitTaken s x = record {
-    csb = false;
-    sclk = true;
-    phase = s .phase;
-    bits = s .bits + 1;
-    value = valueWith s (bitAt x (lineOf c s));
-    address = s .address;
-    read = s .read;
-    left = s .left;
-    settings = s .settings;
-    used = s .used;
-  }
+  bitTaken s x = withBits (atLevels s false true) (s .bits + 1) (valueWith s (bitAt x (lineOf c s)))
 
   takes : {s : Port} → Form c s → (x : ℕ) → takesBit s x ≡ true → s .bits < lastOf (s .phase) → stepOf c s x ≡ bitTaken s x
   unfolding stepOf withInstructionBit withDataBit

@@ -7,10 +7,11 @@ use lib.ListN.{length, getD}
 use Rattle.bits.specs.Bits.{shiftedIn}
 use Rattle.chip.specs.declared.Chip.{Chip}
 use Rattle.session.specs.declared.Port.{Port}
-use Rattle.words.specs.Words.{wordOf}
+use Rattle.words.specs.Words.{wordOf, PastHigh}
 use Rattle.words.specs.Lanes.{clockOf, Level, lowsIn, risesIn}
 use Rattle.trace.specs.declared.scan.Piece.{Piece}
 use Rattle.trace.specs.declared.scan.Bits.{Bits}
+use Rattle.trace.specs.declared.high.Past.{Past}
 use Rattle.trace.specs.Piece.{lastOf, lineOf, Reached}
 
 abbrev pub piece : ℕ → ℕ → ℕ → ℕ → Piece
@@ -60,6 +61,11 @@ pub record Scanned (xs : List ℕ) (csb : Bool) (line : ℕ) (lsb : Bool) (last 
 unfoldable pub levelAfter : List ℕ → ℕ → ℕ → ℕ → ℕ
 levelAfter xs i l zero = l
 levelAfter xs i l (suc n) = clockOf (getD xs (i + n) 0)
+
+-- samples with CSB high are passed, from sample i on: where it falls, or the end, and the level of SCLK before it
+pub record Rested (xs : List ℕ) (l i : ℕ) (r : Past) : Type 0 where
+  pub past : PastHigh xs i (r .at)
+  pub level-is : r .level ≡ levelAfter xs i l (r .at - i)
 
 -- how many of the eight samples from sample i on come before the first with CSB high
 abbrev pub lowsAt : List ℕ → ℕ → ℕ

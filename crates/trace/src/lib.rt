@@ -6,6 +6,7 @@ ghost use lib.ListN.{length};
 ghost use Rattle.session.specs.State.{soundPort};
 ghost use Rattle.trace.specs.Path.{Passed, happens};
 
+mod high;
 mod quiet;
 mod scan;
 

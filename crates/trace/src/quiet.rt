@@ -5,13 +5,12 @@ ghost use Prim.Native.Nat.{_≤_};
 ghost use lib.ListN.{length};
 ghost use Rattle.session.specs.State.{soundPort};
 ghost use Rattle.trace.specs.Piece.{lastOf, lineOf, Reached};
+use crate::high::past_high;
 use crate::scan::Piece;
-use crate::scan::level_before;
 use crate::scan::take_each;
 use chip::Chip;
 use session::Phase;
 use session::Port;
-use words::past_high;
 
 // How many bits come before the last of a piece: seven in data, and in no other phase.
 pub fn last_of(phase: Phase) -> u8
@@ -49,13 +48,12 @@ fn high(chip: Chip, port: Port, samples: &[u8], from: usize) -> Piece
     requires { ⌜ (port .csb ≡ true) × (soundPort chip port ≡ true) × (from ≤ length (now samples)) ⌝ }
     ensures { λ r. ⌜ Reached chip (now (samples .entry)) port from r ⌝ }
 {
-    let at = past_high(samples, from);
-    let level = level_before(samples, level_of(port.sclk), from, at);
+    let past = past_high(samples, level_of(port.sclk), from);
     Piece {
-        level: level,
+        level: past.level,
         bits: port.bits,
         value: port.value,
-        at: at,
+        at: past.at,
     }
 }
 

@@ -1,26 +1,26 @@
 // Samples scanned eight at a time.
 ghost use mathlib.Core.Path.{_≡_};
 ghost use mathlib.Core.Bool.{Bool};
-ghost use Prim.Native.Nat.{_+_, _-_, _/_, _^_, _<_, _≤_};
+ghost use Prim.Native.Nat.{_+_, _/_, _^_, _<_, _≤_};
 ghost use lib.Count.{trailingZeros};
 ghost use lib.ListN.{length};
 ghost use Rattle.words.specs.Words.{wordOf};
-ghost use Rattle.words.specs.Lanes.{nibble};
-ghost use Rattle.trace.specs.Scan.{Standing, Took, Masked, Filled, Scanned, levelAfter, shiftedThree, shiftedFour};
+ghost use Rattle.words.specs.Lanes.{highsIn, nibble};
+ghost use Rattle.trace.specs.Scan.{Standing, Took, Masked, Filled, Scanned, shiftedThree, shiftedFour};
+use crate::high::past_high;
 use bits::bit_at;
 use bits::shift_in;
 use card::turn;
 use words::four_bits;
 use words::highs;
+use words::level_at;
+use words::levels;
 use words::lows;
-use words::past_high;
 use words::rises;
 use words::word_at;
 
-// SCLK low and high in turn: a rise in every second of eight samples; and the last of them.
+// SCLK low and high in turn in eight samples, with CSB low: each bit takes two samples.
 const DENSE: u64 = 0x0200_0200_0200_0200;
-
-const LAST: u64 = 0x0200_0000_0000_0000;
 
 // What samples without an event change of a port, the level of SCLK (0 or 2), the bits taken and their value; and the place
 // of the next sample.
@@ -96,39 +96,6 @@ fn with_three(lsb: bool, value: u16, bits: u8, more: u8) -> u16
     value * 8 + (more / 2) as u16
 }
 
-// The bits of eight samples: four at once where each takes two samples, and else rise by rise.
-fn bits_in(
-    samples: &[u8],
-    word: u64,
-    from: Piece,
-    rises: u64,
-    line: u8,
-    lsb: bool,
-    last: u8,
-) -> Bits
-    requires { ⌜ (Standing (now samples) last from) × (Masked (now samples) from rises) × (line < 4) × (word ≡ wordOf (now samples) (from .at) 8) ⌝ }
-    ensures { λ r. ⌜ Filled (now (samples .entry)) line lsb last from r ⌝ }
-{
-    if rises == DENSE {
-        if from.bits + 3 <= last {
-            let more = four_bits(word, line);
-            if from.bits + 3 == last {
-                return Bits {
-                    bits: last,
-                    value: with_three(lsb, from.value, from.bits, more),
-                    rising: LAST,
-                };
-            }
-            return Bits {
-                bits: from.bits + 4,
-                value: with_four(lsb, from.value, from.bits, more),
-                rising: 0,
-            };
-        }
-    }
-    bits_at(samples, from, rises, line, lsb, last)
-}
-
 // Samples with CSB low, one by one, until the piece ends.
 pub(crate) fn take_each(samples: &[u8], from: Piece, line: u8, lsb: bool, last: u8) -> Piece
     requires { ⌜ (Standing (now samples) last from) × (line < 4) ⌝ }
@@ -165,20 +132,32 @@ pub(crate) fn take_each(samples: &[u8], from: Piece, line: u8, lsb: bool, last: 
     }
 }
 
-// The level of SCLK before a place, by the level at an earlier one.
-pub(crate) fn level_before(samples: &[u8], level: u8, from: usize, at: usize) -> u8
-    requires { ⌜ (from ≤ at) × (at ≤ length (now samples)) ⌝ }
-    ensures { λ r. ⌜ r ≡ levelAfter (now (samples .entry)) from level (at - from) ⌝ }
+// Samples with CSB low, up to the first of eight that has it high, or until the piece ends before it.
+fn take_before_high(samples: &[u8], word: u64, from: Piece, line: u8, lsb: bool, last: u8) -> Piece
+    requires { ⌜ (Standing (now samples) last from) × (line < 4) × (from .at + 8 ≤ length (now samples)) × (word ≡ wordOf (now samples) (from .at) 8) × (0 < highsIn 8 word) ⌝ }
+    ensures { λ r. ⌜ Took (now (samples .entry)) line lsb last from r ⌝ }
 {
-    if from == at {
-        level
-    } else {
-        samples[at - 1] & 2
+    let at = from.at;
+    let b = bits_at(samples, from, rises(word, from.level), line, lsb, last);
+    if b.rising != 0 {
+        return Piece {
+            level: 0,
+            bits: b.bits,
+            value: b.value,
+            at: at + lane(b.rising),
+        };
+    }
+    let stop = lows(word);
+    Piece {
+        level: level_at(word, from.level, stop),
+        bits: b.bits,
+        value: b.value,
+        at: at + stop,
     }
 }
 
-// Samples with CSB low, until the piece ends: the bits of a line at the rises of SCLK, up to so many.
-fn take(samples: &[u8], from: Piece, line: u8, lsb: bool, last: u8) -> Piece
+// Samples with CSB low, until the piece ends: eight at a time, and of these rise by rise.
+fn take_words(samples: &[u8], from: Piece, line: u8, lsb: bool, last: u8) -> Piece
     requires { ⌜ (Standing (now samples) last from) × (line < 4) ⌝ }
     ensures { λ r. ⌜ Took (now (samples .entry)) line lsb last from r ⌝ }
 {
@@ -186,7 +165,10 @@ fn take(samples: &[u8], from: Piece, line: u8, lsb: bool, last: u8) -> Piece
     while 8 <= samples.len() - p.at {
         let at = p.at;
         let word = word_at(samples, at);
-        let b = bits_in(samples, word, p, rises(word, p.level), line, lsb, last);
+        if highs(word) != 0 {
+            return take_before_high(samples, word, p, line, lsb, last);
+        }
+        let b = bits_at(samples, p, rises(word, p.level), line, lsb, last);
         if b.rising != 0 {
             return Piece {
                 level: 0,
@@ -195,21 +177,50 @@ fn take(samples: &[u8], from: Piece, line: u8, lsb: bool, last: u8) -> Piece
                 at: at + lane(b.rising),
             };
         }
+        p.level = samples[at + 7] & 2;
         p.bits = b.bits;
         p.value = b.value;
-        if highs(word) != 0 {
-            let stop = at + lows(word);
-            return Piece {
-                level: level_before(samples, p.level, at, stop),
-                bits: b.bits,
-                value: b.value,
-                at: stop,
-            };
-        }
-        p.level = samples[at + 7] & 2;
         p.at = at + 8;
     }
     take_each(samples, p, line, lsb, last)
+}
+
+// Samples with CSB low, until the piece ends: the bits of a line at the rises of SCLK, up to so many. Where each takes two samples,
+// eight are taken at once, or seven before the last.
+fn take(samples: &[u8], from: Piece, line: u8, lsb: bool, last: u8) -> Piece
+    requires { ⌜ (Standing (now samples) last from) × (line < 4) ⌝ }
+    ensures { λ r. ⌜ Took (now (samples .entry)) line lsb last from r ⌝ }
+{
+    let mut p = from;
+    while 16 <= samples.len() - p.at {
+        let at = p.at;
+        let first = word_at(samples, at);
+        if levels(first) != DENSE {
+            break;
+        }
+        let second = word_at(samples, at + 8);
+        if levels(second) != DENSE {
+            break;
+        }
+        if last < p.bits + 7 {
+            break;
+        }
+        let value = with_four(lsb, p.value, p.bits, four_bits(first, line));
+        let more = four_bits(second, line);
+        if p.bits + 7 == last {
+            return Piece {
+                level: 0,
+                bits: last,
+                value: with_three(lsb, value, p.bits + 4, more),
+                at: at + 15,
+            };
+        }
+        p.level = 2;
+        p.value = with_four(lsb, value, p.bits + 4, more);
+        p.bits = p.bits + 8;
+        p.at = at + 16;
+    }
+    take_words(samples, p, line, lsb, last)
 }
 
 // Samples up to one that ends the piece, or with CSB high up to one that lets it fall.
@@ -218,13 +229,12 @@ pub fn next_stop(csb: bool, samples: &[u8], from: Piece, line: u8, lsb: bool, la
     ensures { λ r. ⌜ Scanned (now (samples .entry)) csb line lsb last from r ⌝ }
 {
     if csb {
-        let start = from.at;
-        let at = past_high(samples, start);
+        let past = past_high(samples, from.level, from.at);
         return Piece {
-            level: level_before(samples, from.level, start, at),
+            level: past.level,
             bits: from.bits,
             value: from.value,
-            at: at,
+            at: past.at,
         };
     }
     take(samples, from, line, lsb, last)

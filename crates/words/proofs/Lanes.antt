@@ -5,11 +5,11 @@ use Prim.Native.Nat.{ℕ, zero, suc, _+_, _-_, _*_, _/_, _%_, _^_, _<_, _≤_}
 use native.Mathlib.Omega.{arith}
 use native.Mathlib.Nat.{pow-suc, suc-add, zero-add, zero-sub, zero-mul, mul-assoc, mul-right-comm, add-mul, one-mul, mod-self}
 use lib.Dec.{eqb}
-use lib.Pow.{pow-add, pow-pos, split}
+use lib.Pow.{pow-add, pow-pos, high, low, split, shr-shr, field, mod-mod-pow}
 use lib.Bits.{bitAnd, bitOr, bitXor, and-block, xor-block, and-mask, and-high, and-self, and-shifted, and-zero-r, or-shifted, xor-lt, shifted-half, shifted-even}
 use lib.Count.{under, trailingZeros, trailing-le, trailing-of-zero}
 use borrow.Author.Tests.{eq-eqb, ne-eqb}
-use Rattle.words.specs.Lanes.{clockOf, Level, highsIn, lowsIn, risesIn}
+use Rattle.words.specs.Lanes.{clockOf, Level, levelsIn, highsIn, lowsIn, levelIn, risesIn}
 
 -- ---- one lane and those above it
 
@@ -67,6 +67,17 @@ without-lowest q t =
     parts : (x y : ℕ) → y ≡ x * 2 → (q * 2 + 1) * x ≡ q * y + x
     parts x y e =
         add-mul (q * 2) 1 x ∙ ap₂ (λ (a b : ℕ). a + b) (mul-right-comm q 2 x ∙ mul-assoc q x 2 ∙ ap (λ (m : ℕ). q * m) (sym e)) (one-mul x)
+
+-- ---- CSB and SCLK
+
+pub levels-mask : (k w : ℕ) → bitAnd w (each 3 k) ≡ levelsIn k w
+unfolding levelsIn
+levels-mask zero w = and-zero-r w
+levels-mask (suc k) w =
+    let low : bitAnd (w % 256) 3 ≡ w % 4 = and-mask (w % 256) 2 ∙ omega arith in
+    ap (λ (x : ℕ). bitAnd x (each 3 k * 256 + 3)) (sym (apart w))
+    ∙ and-lane (w / 256) (each 3 k) (w % 256) 3 (omega arith) (omega arith)
+    ∙ ap₂ (λ (a b : ℕ). a * 256 + b) (levels-mask k (w / 256)) low
 
 -- ---- CSB
 
@@ -158,6 +169,36 @@ moved-up : (a b c d e f g h : ℕ) → a < 256 → b < 256 → c < 256 → d < 2
     ≡ (((((((0 + g) * 256 + f) * 256 + e) * 256 + d) * 256 + c) * 256 + b) * 256 + a) * 256
 moved-up a b c d e f g h ha hb hc hd he hf hg = omega arith
 
+-- SCLK of the sample above k others
+level-above : (k l w : ℕ) → clockOf (w / 2 ^ (8 * k)) ≡ levelIn (suc k) l w
+unfolding levelIn
+level-above zero l w = omega arith
+level-above (suc k) l w =
+    let e : 8 + 8 * k ≡ 8 * suc k = omega arith in
+    ap clockOf (sym (shr-shr w 8 (8 * k) ∙ ap (λ (m : ℕ). w / 2 ^ m) e)) ∙ level-above k (clockOf w) (w / 256)
+
+-- the highest sample, which leaves the word, is not asked for
+low-lanes : (k w : ℕ) → k < 7 → clockOf (w % 2 ^ 56 / 2 ^ (8 * k)) ≡ clockOf (w / 2 ^ (8 * k))
+low-lanes k w h =
+    let e : 56 ≡ 54 - 8 * k + 2 + 8 * k = omega arith in
+    let f = ap (λ (m : ℕ). w % 2 ^ m / 2 ^ (8 * k)) e ∙ field w (54 - 8 * k + 2) (8 * k) in
+    omega (arith, f, mod-mod-pow (w / 2 ^ (8 * k)) (54 - 8 * k) 2)
+
+pub level-mask : (k l w : ℕ) → Level l → k < 8 → bitAnd (bitOr (w * 2 ^ 8 % 18446744073709551616) l / 2 ^ (8 * k)) 2 ≡ levelIn k l w
+unfolding levelIn
+level-mask k l w h g =
+    let m = w % 2 ^ 56 in
+    let e : w * 2 ^ 8 % 18446744073709551616 ≡ m * 256 = omega arith in
+    clock-mask _ ∙ ap (λ (x : ℕ). clockOf (x / 2 ^ (8 * k))) (ap (λ (x : ℕ). bitOr x l) e ∙ or-shifted m 8 l (omega (arith, h .small))) ∙ by k g
+  where
+    by : (k : ℕ) → k < 8 → clockOf ((w % 2 ^ 56 * 256 + l) / 2 ^ (8 * k)) ≡ levelIn k l w
+    by zero g = omega (arith, h .even, h .small)
+    by (suc k) g =
+        let e : 8 + 8 * k ≡ 8 * suc k = omega arith in
+        let a : (w % 2 ^ 56 * 256 + l) / 2 ^ 8 ≡ w % 2 ^ 56 = omega (arith, h .small) in
+        ap clockOf (sym (shr-shr (w % 2 ^ 56 * 256 + l) 8 (8 * k) ∙ ap (λ (n : ℕ). (w % 2 ^ 56 * 256 + l) / 2 ^ n) e) ∙ ap (λ (x : ℕ). x / 2 ^ (8 * k)) a)
+        ∙ low-lanes k w (omega arith) ∙ level-above k l w
+
 -- 2 where SCLK is low before and high now
 lane-rise : (d e : ℕ) → d < 2 → e < 2 → bitAnd (d * 2) (bitXor (d * 2) (e * 2)) ≡ d * 2 - e * 2
 lane-rise zero zero h k = refl
@@ -223,3 +264,39 @@ rises-cut (suc k) l w h n =
     ∙ and-lane (risesIn k (clockOf w) (w / 256)) (highsIn k (w / 256)) (clockOf w - l) 0 (omega arith) (omega arith)
     ∙ ap₂ (λ (a b : ℕ). a * 256 + b) (disjoint k (clockOf w) (w / 256) (w / 256) (clock-level w)) (and-zero-r (clockOf w - l))
     ∙ ap (λ (j : ℕ). risesIn j l w) (sym (lows-none k w e)))
+
+-- ---- each bit in two samples
+
+-- the samples of k bits, and their levels: SCLK low and then high, with CSB low
+abbrev twice : ℕ → ℕ
+twice zero = 0
+twice (suc k) = suc (suc (twice k))
+
+abbrev inTurn : ℕ → ℕ
+inTurn zero = 0
+inTurn (suc k) = (inTurn k * 256 + 2) * 256
+
+csb-low : (d w : ℕ) → w % 4 ≡ d * 2 → (w % 2 ≡ 0) × (clockOf w ≡ d * 2)
+csb-low d w e = (omega arith, omega arith)
+
+same-lane : (a b r s : ℕ) → r < 256 → s < 256 → a * 256 + r ≡ b * 256 + s → (a ≡ b) × (r ≡ s)
+same-lane a b r s h k e =
+    (sym (high a 8 h) ∙ ap (λ (x : ℕ). x / 256) e ∙ high b 8 k, sym (low a 8 h) ∙ ap (λ (x : ℕ). x % 256) e ∙ low b 8 k)
+
+-- no sample has CSB high, every second one is a rise, whatever the level before them, and SCLK is high after them
+turns : (k l w : ℕ) → levelsIn (twice k) w ≡ inTurn k → (highsIn (twice k) w ≡ 0) × (risesIn (twice k) l w ≡ inTurn k) × (levelIn (twice k) 2 w ≡ 2)
+unfolding levelsIn highsIn risesIn levelIn
+turns zero l w e = (refl, refl, refl)
+turns (suc k) l w e =
+    let first = same-lane _ (inTurn k * 256 + 2) (w % 4) 0 (omega arith) (omega arith) (e ∙ omega arith) in
+    let second = same-lane _ (inTurn k) (w / 256 % 4) 2 (omega arith) (omega arith) (first .0) in
+    let both = turns k (clockOf (w / 256)) (w / 256 / 256) (second .0) in
+    let a = csb-low 0 w (first .1) in
+    let b = csb-low 1 (w / 256) (second .1) in (
+      λ t. (both .0 t * 256 + b .0 t) * 256 + a .0 t,
+      omega (arith, both .1, ap₂ _-_ (b .1) (a .1), ap (λ (x : ℕ). x - l) (a .1) ∙ zero-sub l),
+      ap (λ (m : ℕ). levelIn (twice k) m (w / 256 / 256)) (b .1) ∙ both .2,
+    )
+
+pub dense-lanes : (l w : ℕ) → levelsIn 8 w ≡ 0x0200020002000200 → (highsIn 8 w ≡ 0) × (risesIn 8 l w ≡ 0x0200020002000200) × (levelIn 8 2 w ≡ 2)
+dense-lanes = turns 4

@@ -14,6 +14,11 @@ pub record Level (l : ℕ) : Type 0 where
   pub even : l % 2 ≡ 0
   pub small : l < 4
 
+-- CSB and SCLK of k samples, as they stand in them
+unfoldable pub levelsIn : ℕ → ℕ → ℕ
+levelsIn zero w = 0
+levelsIn (suc k) w = levelsIn k (w / 256) * 256 + w % 4
+
 -- CSB of k samples
 unfoldable pub highsIn : ℕ → ℕ → ℕ
 highsIn zero w = 0
@@ -23,6 +28,11 @@ highsIn (suc k) w = highsIn k (w / 256) * 256 + w % 2
 unfoldable pub lowsIn : ℕ → ℕ → ℕ
 lowsIn zero w = 0
 lowsIn (suc k) w = cond (eqb (w % 2) 0) (suc (lowsIn k (w / 256))) 0
+
+-- SCLK before the sample after k of them, by the level before them all
+unfoldable pub levelIn : ℕ → ℕ → ℕ → ℕ
+levelIn zero l w = l
+levelIn (suc k) l w = levelIn k (clockOf w) (w / 256)
 
 -- the rises of SCLK in k samples, by the level before them: 2 where it is low before and high now
 unfoldable pub risesIn : ℕ → ℕ → ℕ → ℕ

@@ -3,8 +3,11 @@ ghost use mathlib.Core.Path.{_≡_};
 ghost use Prim.Native.Nat.{_+_, _<_, _≤_};
 ghost use lib.ListN.{length};
 ghost use Rattle.bits.specs.Bits.{bitAt};
-ghost use Rattle.words.specs.Words.{wordOf, High, PastHigh};
-ghost use Rattle.words.specs.Lanes.{Level, highsIn, lowsIn, risesIn, nibble};
+ghost use Rattle.words.specs.Words.{wordOf};
+ghost use Rattle.words.specs.Lanes.{Level, levelsIn, highsIn, lowsIn, levelIn, risesIn, nibble};
+
+// CSB and SCLK of each of eight samples.
+const LEVELS: u64 = 0x0303_0303_0303_0303;
 
 // SCLK of each of eight samples.
 const CLOCKS: u64 = 0x0202_0202_0202_0202;
@@ -30,6 +33,13 @@ pub fn word_at(samples: &[u8], at: usize) -> u64
         | ((samples[at + 7] as u64) << 56)
 }
 
+// CSB and SCLK, in each of eight samples.
+pub fn levels(word: u64) -> u64
+    ensures { λ r. ⌜ r ≡ levelsIn 8 word ⌝ }
+{
+    word & LEVELS
+}
+
 // CSB high, in each of eight samples.
 pub fn highs(word: u64) -> u64
     ensures { λ r. ⌜ r ≡ highsIn 8 word ⌝ }
@@ -42,6 +52,14 @@ pub fn lows(word: u64) -> usize
     ensures { λ r. ⌜ r ≡ lowsIn 8 word ⌝ }
 {
     (u64::trailing_zeros(word & EACH) / 8) as usize
+}
+
+// The level of SCLK before one of eight samples, by the level before them all.
+pub fn level_at(word: u64, level: u8, lane: usize) -> u8
+    requires { ⌜ (Level level) × (lane < 8) ⌝ }
+    ensures { λ r. ⌜ r ≡ levelIn lane level word ⌝ }
+{
+    ((((word << 8) | level as u64) >> (8 * lane)) & 2) as u8
 }
 
 // The rises of SCLK in eight samples, as one bit in each, by the level before them; those before CSB is high.
@@ -66,34 +84,4 @@ pub fn four_bits(word: u64, line: u8) -> u8
     let x = (word >> (8 + line)) & SECONDS;
     let t = (x << 1) | (x >> 16);
     (((t << 2) | (t >> 32)) % 16) as u8
-}
-
-// Past samples with CSB high, eight at a time.
-fn past_highs(samples: &[u8], from: usize) -> usize
-    requires { ⌜ from ≤ length (now samples) ⌝ }
-    ensures { λ r. ⌜ High (now (samples .entry)) from r ⌝ }
-{
-    let mut at = from;
-    while 8 <= samples.len() - at {
-        if highs(word_at(samples, at)) != EACH {
-            return at;
-        }
-        at += 8;
-    }
-    at
-}
-
-// The place of the first sample with CSB low, or the end.
-pub fn past_high(samples: &[u8], from: usize) -> usize
-    requires { ⌜ from ≤ length (now samples) ⌝ }
-    ensures { λ r. ⌜ PastHigh (now (samples .entry)) from r ⌝ }
-{
-    let mut at = past_highs(samples, from);
-    while at < samples.len() {
-        if samples[at] % 2 == 0 {
-            return at;
-        }
-        at += 1;
-    }
-    at
 }

@@ -63,20 +63,14 @@ pub struct Stages {
     pub buffer: u8,
 }
 
-// The bytes at an address of the two banks, 0 beyond their end.
+// The bytes at an address of the two banks.
 fn stages_at(active: &[u8], buffer: &[u8], at: usize) -> Stages
-    requires { ⌜ length (now buffer) ≡ length (now active) ⌝ }
+    requires { ⌜ (length (now buffer) ≡ length (now active)) × (at < length (now active)) ⌝ }
     ensures { λ r. ⌜ r ≡ stagesAt (banks (now (active .entry)) (now (buffer .entry))) at ⌝ }
 {
-    if at < active.len() {
-        return Stages {
-            active: active[at],
-            buffer: buffer[at],
-        };
-    }
     Stages {
-        active: 0,
-        buffer: 0,
+        active: active[at],
+        buffer: buffer[at],
     }
 }
 
@@ -95,7 +89,15 @@ fn untaken(byte: u8) -> Written
 fn control_answer(chip: Chip, settings: Settings, address: u16, v: u8, effect: u8) -> Written
     ensures { λ r. ⌜ r ≡ controlWritten chip settings address v effect ⌝ }
 {
-    let after = settings.after(chip, address, v);
+    // Field by field, so that a write to any other register copies no settings.
+    let before = Settings {
+        lsb: settings.lsb,
+        ascending: settings.ascending,
+        sdo: settings.sdo,
+        single: settings.single,
+        readback: settings.readback,
+    };
+    let after = before.after(chip, address, v);
     Written {
         byte: after.reading(chip, address),
         effect: effect,
@@ -116,6 +118,10 @@ pub fn effect_at(
     ensures { λ r. ⌜ r ≡ effectAt chip (now (map .entry)) (banks (now (active .entry)) (now (buffer .entry))) address v ⌝ }
 {
     let at = address as usize;
+    // Beyond the banks a register is blank.
+    if active.len() <= at {
+        return Effect::Nothing;
+    }
     let register = entry_at(map, active.len(), at);
     let stages = stages_at(active, buffer, at);
     effect_of(chip, register, stages, address, v)

@@ -35,7 +35,9 @@ pub fn end_frame(chip: Chip, map: &[u8], active: &mut [u8], buffer: &[u8], armed
     requires { ⌜ Mapped (now map) (banks (now active) (now buffer)) ⌝ }
     ensures { λ r. ⌜ banks (now (active .exit)) (now (buffer .entry)) ≡ riseBanks chip (now (map .entry)) armed (banks (now (active .entry)) (now (buffer .entry))) ⌝ }
 {
-    if armed & moves_at_rise(chip, map) {
-        transfer(map, active, buffer);
+    if armed {
+        if moves_at_rise(chip, map) {
+            transfer(map, active, buffer);
+        }
     }
 }

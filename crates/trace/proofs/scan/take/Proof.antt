@@ -1,13 +1,11 @@
--- `take` meets its contract: each word gives its bits, and the scan goes on, or ends at a rise or where CSB is high.
-use Prim.Native.Nat.{ℕ, _+_, _-_}
-use mathlib.Core.Path.{_≡_, refl, sym, _∙_, ap}
+-- `take` meets its contract: sixteen samples of eight bits each time, up to the last seven before the last bit; and then word by word.
+use Prim.Native.Nat.{_+_, _-_}
+use mathlib.Core.Path.{_≡_, sym, _∙_}
 use native.Mathlib.Omega.{arith}
 use lib.ListN.{length}
 use borrow.Author.Needs.{needs}
-use Rattle.words.specs.Words.{wordOf}
-use Rattle.words.specs.Lanes.{highsIn, lowsIn, risesIn}
-use Rattle.words.proofs.Lanes.{lows-le}
-use Rattle.trace.proofs.Onward.{Going, going-begun, rise-inside, took-rise, word-passed, took-before-high, took-join}
+use Rattle.trace.proofs.Dense.{word-nibble-lt, half, seven-taken, eight-passed}
+use Rattle.trace.proofs.Onward.{Going, going-begun, took-join}
 use Rattle.trace.proofs.scan.take.Statement.{statement}
 use Rattle.trace.proofs.scan.take.Tie as tie
 
@@ -26,79 +24,83 @@ sub-if1 c = c .before .loop .inv .standing .within
 word-at-requires : tie.Need-word-at-requires Inv-loop μ-loop
 word-at-requires c κs = omega (arith, c .if1 .taken, c .before .before .loop .inv .standing .within)
 
-rises-requires : tie.Need-rises-requires Inv-loop μ-loop
-rises-requires c κs = c .before .before .before .loop .inv .standing .level
+levels-requires : tie.Need-levels-requires Inv-loop μ-loop
+levels-requires c κs = search needs
 
-bits-in-requires : tie.Need-bits-in-requires Inv-loop μ-loop
-bits-in-requires c κs =
-    let w = c .before .word-at .ensures in (
-      c .before .before .before .before .loop .inv .standing,
-      record {
-        room = omega (arith, c .before .before .if1 .taken, c .before .before .before .before .loop .inv .standing .within);
-        mask = c .rises .ensures ∙ ap (λ (w : ℕ). risesIn (lowsIn 8 w) (c .before .before .before .before .loop .p .level) w) w;
-      },
-      c .before .before .before .before .before .before .pre .1,
-      w,
-    )
+add-word-at : tie.Need-add-word-at Inv-loop μ-loop
+add-word-at c = omega (arith, c .before .before .before .if1 .taken, c .before .before .before .before .before .loop .inv .standing .within)
 
-lane-requires : tie.Need-lane-requires Inv-loop μ-loop
-lane-requires c κs = search needs
+word-at-requires-2 : tie.Need-word-at-requires-2 Inv-loop μ-loop
+word-at-requires-2 c κs = omega (arith, c .before .before .before .if1 .taken, c .before .before .before .before .before .loop .inv .standing .within)
 
-add-t16 : tie.Need-add-t16 Inv-loop μ-loop
-add-t16 c =
-    let s = c .before .before .before .before .before .before .before .before .loop .inv .standing in
-    omega (arith, rise-inside (λ k. c .before .before .before .before .before .before .before .before .before .shared-slice-known .given k .fits) (c .before .before .before .before .before .before .before .before .loop .inv) (omega (arith, c .before .before .before .before .before .before .if1 .taken, s .within)) (c .before .before .before .bits-in .ensures) (c .before .if2 .taken) _ (c .lane .ensures), c .before .before .before .before .before .before .if1 .taken, s .within)
+levels-requires-2 : tie.Need-levels-requires-2 Inv-loop μ-loop
+levels-requires-2 c κs = search needs
+
+add-if4 : tie.Need-add-if4 Inv-loop μ-loop
+add-if4 c = let s = c .before .before .before .before .before .before .before .before .before .loop .inv .standing in omega (arith, s .few, s .short)
+
+four-bits-requires : tie.Need-four-bits-requires Inv-loop μ-loop
+four-bits-requires c κs = search needs
+
+with-four-requires : tie.Need-with-four-requires Inv-loop μ-loop
+with-four-requires c κs =
+    let s = c .before .before .before .before .before .before .before .before .before .before .before .loop .inv .standing in
+    (s .small, omega (arith, c .before .if4 .left, s .short), word-nibble-lt _ (c .before .before .before .before .before .before .before .before .word-at .result) (c .before .before .before .before .before .before .before .before .before .before .before .before .before .args .line) (c .four-bits .ensures))
+
+four-bits-requires-2 : tie.Need-four-bits-requires-2 Inv-loop μ-loop
+four-bits-requires-2 c κs = search needs
+
+add-if5 : tie.Need-add-if5 Inv-loop μ-loop
+add-if5 c = let s = c .before .before .before .before .before .before .before .before .before .before .before .before .before .before .loop .inv .standing in omega (arith, s .few, s .short)
+
+add-with-three : tie.Need-add-with-three Inv-loop μ-loop
+add-with-three c = let s = c .before .before .before .before .before .before .before .before .before .before .before .before .before .before .before .before .loop .inv .standing in omega (arith, s .few, s .short)
+
+with-three-requires : tie.Need-with-three-requires Inv-loop μ-loop
+with-three-requires c κs =
+    let s = half (λ k. c .before .before .before .before .before .before .before .before .before .before .before .before .before .before .before .before .before .shared-slice-known .given k .fits) (c .before .before .before .before .before .before .before .before .before .before .before .before .before .before .before .before .before .before .pre .1) (c .before .before .before .before .before .before .before .before .before .before .before .before .before .before .before .before .loop .inv) (omega (arith, c .before .before .before .before .before .before .before .before .before .before .before .before .before .before .if1 .taken, c .before .before .before .before .before .before .before .before .before .before .before .before .before .before .before .before .loop .inv .standing .within)) (c .before .before .before .before .before .before .before .before .before .before .before .before .before .word-at .ensures) (c .before .before .before .before .before .before .before .before .before .before .word-at2 .ensures)
+    (sym (c .before .before .before .before .before .before .before .before .before .before .before .before .levels .ensures) ∙ c .before .before .before .before .before .before .before .before .before .before .before .if2 .left) (sym (c .before .before .before .before .before .before .before .before .before .levels2 .ensures) ∙ c .before .before .before .before .before .before .before .before .if3 .left) (c .before .before .before .before .before .before .if4 .left) (c .before .before .before .before .before .four-bits .ensures) (c .before .before .before .before .with-four .ensures) .standing in
+    (s .small, omega (arith, c .before .before .before .before .before .before .if4 .left, s .short), word-nibble-lt _ (c .before .before .before .before .before .before .before .before .before .before .word-at2 .result) (c .before .before .before .before .before .before .before .before .before .before .before .before .before .before .before .before .before .before .args .line) (c .before .before .before .four-bits2 .ensures))
+
+add-t19 : tie.Need-add-t19 Inv-loop μ-loop
+add-t19 c = omega (arith, c .before .before .before .before .before .before .before .before .before .before .before .before .before .before .before .if1 .taken, c .before .before .before .before .before .before .before .before .before .before .before .before .before .before .before .before .before .loop .inv .standing .within)
 
 returns : tie.Need-returns Inv-loop μ-loop
 returns c =
-    took-rise (λ k. c .before .before .before .before .before .before .before .before .before .shared-slice-known .given k .fits) (c .before .before .before .before .before .before .before .before .loop .inv) (omega (arith, c .before .before .before .before .before .before .if1 .taken, c .before .before .before .before .before .before .before .before .loop .inv .standing .within)) (c .before .before .before .bits-in .ensures)
-    (c .before .if2 .taken) _ (c .lane .ensures)
+    seven-taken (λ k. c .before .before .before .before .before .before .before .before .before .before .before .before .before .before .before .before .before .before .shared-slice-known .given k .fits) (c .before .before .before .before .before .before .before .before .before .before .before .before .before .before .before .before .before .before .before .pre .1) (c .before .before .before .before .before .before .before .before .before .before .before .before .before .before .before .before .before .loop .inv) (omega (arith, c .before .before .before .before .before .before .before .before .before .before .before .before .before .before .before .if1 .taken, c .before .before .before .before .before .before .before .before .before .before .before .before .before .before .before .before .before .loop .inv .standing .within)) (c .before .before .before .before .before .before .before .before .before .before .before .before .before .before .word-at .ensures) (c .before .before .before .before .before .before .before .before .before .before .before .word-at2 .ensures)
+    (sym (c .before .before .before .before .before .before .before .before .before .before .before .before .before .levels .ensures) ∙ c .before .before .before .before .before .before .before .before .before .before .before .before .if2 .left) (sym (c .before .before .before .before .before .before .before .before .before .before .levels2 .ensures) ∙ c .before .before .before .before .before .before .before .before .before .if3 .left) (c .before .before .before .before .before .before .before .if4 .left) (c .before .before .before .before .before .before .four-bits .ensures) (c .before .before .before .before .before .with-four .ensures)
+    (c .before .before .before .before .four-bits2 .ensures) (c .before .before .if5 .taken) (c .with-three .ensures)
 
-highs-requires : tie.Need-highs-requires Inv-loop μ-loop
-highs-requires c κs = search needs
+add-with-four : tie.Need-add-with-four Inv-loop μ-loop
+add-with-four c = let s = c .before .before .before .before .before .before .before .before .before .before .before .before .before .before .before .before .loop .inv .standing in omega (arith, s .few, s .short)
 
-lows-requires : tie.Need-lows-requires Inv-loop μ-loop
-lows-requires c κs = search needs
-
-add-stop : tie.Need-add-stop Inv-loop μ-loop
-add-stop c =
-    omega (arith, c .lows .ensures, lows-le 8 (c .before .before .before .before .before .before .before .word-at .result), c .before .before .before .before .before .before .before .before .if1 .taken, c .before .before .before .before .before .before .before .before .before .before .loop .inv .standing .within)
-
-level-before-requires : tie.Need-level-before-requires Inv-loop μ-loop
-level-before-requires c κs =
-    (omega arith, omega (arith, c .lows .ensures, lows-le 8 (c .before .before .before .before .before .before .before .word-at .result), c .before .before .before .before .before .before .before .before .if1 .taken, c .before .before .before .before .before .before .before .before .before .before .loop .inv .standing .within))
-
-returns-2 : tie.Need-returns-2 Inv-loop μ-loop
-returns-2 c =
-    let w = c .before .before .before .before .before .before .before .before .word-at .ensures in
-    let h = c .before .before .before .highs .ensures ∙ ap (highsIn 8) w in
-    let some = c .before .before .if3 .taken in
-    took-before-high (λ k. c .before .before .before .before .before .before .before .before .before .before .before .before .shared-slice-known .given k .fits) (c .before .before .before .before .before .before .before .before .before .before .before .loop .inv) (omega (arith, c .before .before .before .before .before .before .before .before .before .if1 .taken, c .before .before .before .before .before .before .before .before .before .before .before .loop .inv .standing .within)) (c .before .before .before .before .before .before .bits-in .ensures)
-    (c .before .before .before .before .if2 .left) (λ z. some (h ∙ z)) _ _ (c .before .lows .ensures ∙ ap (lowsIn 8) w) (c .level-before .ensures)
+with-four-requires-2 : tie.Need-with-four-requires-2 Inv-loop μ-loop
+with-four-requires-2 c κs =
+    let s = half (λ k. c .before .before .before .before .before .before .before .before .before .before .before .before .before .before .before .before .before .shared-slice-known .given k .fits) (c .before .before .before .before .before .before .before .before .before .before .before .before .before .before .before .before .before .before .pre .1) (c .before .before .before .before .before .before .before .before .before .before .before .before .before .before .before .before .loop .inv) (omega (arith, c .before .before .before .before .before .before .before .before .before .before .before .before .before .before .if1 .taken, c .before .before .before .before .before .before .before .before .before .before .before .before .before .before .before .before .loop .inv .standing .within)) (c .before .before .before .before .before .before .before .before .before .before .before .before .before .word-at .ensures) (c .before .before .before .before .before .before .before .before .before .before .word-at2 .ensures)
+    (sym (c .before .before .before .before .before .before .before .before .before .before .before .before .levels .ensures) ∙ c .before .before .before .before .before .before .before .before .before .before .before .if2 .left) (sym (c .before .before .before .before .before .before .before .before .before .levels2 .ensures) ∙ c .before .before .before .before .before .before .before .before .if3 .left) (c .before .before .before .before .before .before .if4 .left) (c .before .before .before .before .before .four-bits .ensures) (c .before .before .before .before .with-four .ensures) .standing in
+    let n = c .before .if5 .left in
+    (s .small, omega (arith, n, c .before .before .before .before .before .before .if4 .left, s .short), word-nibble-lt _ (c .before .before .before .before .before .before .before .before .before .before .word-at2 .result) (c .before .before .before .before .before .before .before .before .before .before .before .before .before .before .before .before .before .before .args .line) (c .before .before .before .four-bits2 .ensures))
 
 add-p : tie.Need-add-p Inv-loop μ-loop
-add-p c = omega (arith, c .before .before .before .before .before .before .before .if1 .taken, c .before .before .before .before .before .before .before .before .before .loop .inv .standing .within)
-
-shared-slice-read-p : tie.Need-shared-slice-read-p Inv-loop μ-loop
-shared-slice-read-p c = omega (arith, c .before .before .before .before .before .before .before .before .if1 .taken, c .before .before .before .before .before .before .before .before .before .before .loop .inv .standing .within)
+add-p c = let s = c .before .before .before .before .before .before .before .before .before .before .before .before .before .before .before .before .before .before .loop .inv .standing in omega (arith, s .few, s .short)
 
 add-p-2 : tie.Need-add-p-2 Inv-loop μ-loop
-add-p-2 c = omega (arith, c .before .before .before .before .before .before .before .before .if1 .taken, c .before .before .before .before .before .before .before .before .before .before .loop .inv .standing .within)
+add-p-2 c = omega (arith, c .before .before .before .before .before .before .before .before .before .before .before .before .before .before .before .before .if1 .taken, c .before .before .before .before .before .before .before .before .before .before .before .before .before .before .before .before .before .before .loop .inv .standing .within)
 
 loop-less : tie.Need-loop-less Inv-loop μ-loop
-loop-less c = omega (arith, c .before .before .before .before .before .before .before .before .if1 .taken, c .before .before .before .before .before .before .before .before .before .before .loop .inv .standing .within)
+loop-less c = omega (arith, c .before .before .before .before .before .before .before .before .before .before .before .before .before .before .before .before .if1 .taken, c .before .before .before .before .before .before .before .before .before .before .before .before .before .before .before .before .before .before .loop .inv .standing .within)
 
 loop-again : tie.Need-loop-again Inv-loop μ-loop
 loop-again c =
-    let w = c .before .before .before .before .before .before .before .word-at .ensures in
-    word-passed (λ k. c .before .before .before .before .before .before .before .before .before .before .before .shared-slice-known .given k .fits) (c .before .before .before .before .before .before .before .before .before .before .loop .inv) (omega (arith, c .before .before .before .before .before .before .before .before .if1 .taken, c .before .before .before .before .before .before .before .before .before .before .loop .inv .standing .within)) (c .before .before .before .before .before .bits-in .ensures)
-    (c .before .before .before .if2 .left) (sym (c .before .before .highs .ensures ∙ ap (highsIn 8) w) ∙ c .before .if3 .left)
+    eight-passed (λ k. c .before .before .before .before .before .before .before .before .before .before .before .before .before .before .before .before .before .before .before .shared-slice-known .given k .fits) (c .before .before .before .before .before .before .before .before .before .before .before .before .before .before .before .before .before .before .before .before .pre .1) (c .before .before .before .before .before .before .before .before .before .before .before .before .before .before .before .before .before .before .loop .inv) (omega (arith, c .before .before .before .before .before .before .before .before .before .before .before .before .before .before .before .before .if1 .taken, c .before .before .before .before .before .before .before .before .before .before .before .before .before .before .before .before .before .before .loop .inv .standing .within)) (c .before .before .before .before .before .before .before .before .before .before .before .before .before .before .before .word-at .ensures) (c .before .before .before .before .before .before .before .before .before .before .before .before .word-at2 .ensures)
+    (sym (c .before .before .before .before .before .before .before .before .before .before .before .before .before .before .levels .ensures) ∙ c .before .before .before .before .before .before .before .before .before .before .before .before .before .if2 .left) (sym (c .before .before .before .before .before .before .before .before .before .before .before .levels2 .ensures) ∙ c .before .before .before .before .before .before .before .before .before .before .if3 .left) (c .before .before .before .before .before .before .before .before .if4 .left) (c .before .before .before .before .before .before .before .four-bits .ensures) (c .before .before .before .before .before .before .with-four .ensures)
+    (c .before .before .before .before .before .four-bits2 .ensures) (c .before .before .before .if5 .left) (c .before .with-four2 .ensures)
 
-take-each-requires : tie.Need-take-each-requires Inv-loop μ-loop
-take-each-requires c κs = (c .before .before .loop .inv .standing, c .before .before .before .before .pre .1)
+take-words-requires : tie.Need-take-words-requires Inv-loop μ-loop
+take-words-requires c κs = (c .before .before .loop .inv .standing, c .before .before .before .before .pre .1)
 
-returns-3 : tie.Need-returns-3 Inv-loop μ-loop
-returns-3 c = took-join (c .before .before .before .loop .inv) (c .take-each .ensures)
+returns-2 : tie.Need-returns-2 Inv-loop μ-loop
+returns-2 c = took-join (c .before .before .before .loop .inv) (c .take-words .ensures)
 
 pub take-spec : {M : Type 1} → statement M
 take-spec =
@@ -109,20 +111,24 @@ take-spec =
     loop-holds
     sub-if1
     word-at-requires
-    rises-requires
-    bits-in-requires
-    lane-requires
-    add-t16
+    levels-requires
+    add-word-at
+    word-at-requires-2
+    levels-requires-2
+    add-if4
+    four-bits-requires
+    with-four-requires
+    four-bits-requires-2
+    add-if5
+    add-with-three
+    with-three-requires
+    add-t19
     returns
-    highs-requires
-    lows-requires
-    add-stop
-    level-before-requires
-    returns-2
+    add-with-four
+    with-four-requires-2
     add-p
-    shared-slice-read-p
     add-p-2
     loop-less
     loop-again
-    take-each-requires
-    returns-3)
+    take-words-requires
+    returns-2)
