@@ -41,9 +41,9 @@ build:
 	@[ -f target/bin/busread ] || echo "proving the programs' crates, one line each; this takes some minutes .." >&2
 	@.ci/told rt check busread couplingnut
 	@$(call staticlib,couplingnut)
-	@$(call staticlib,recording)
+	@$(call staticlib,text_recording)
 	@$(COMPILE) -o target/host/bussend host/bussend.c host/message.c target/staticlib/libcouplingnut.a
-	@$(COMPILE) -o target/host/busread host/busread.c host/message.c target/staticlib/librecording.a
+	@$(COMPILE) -o target/host/busread host/busread.c host/message.c target/staticlib/libtext_recording.a
 
 # The library for hosts, static and shared: the proved calls, and the words for their numbers (host/message.c). Linking stops at text
 # that would have to be relocated, so that the archive's position-independence is tested too.
@@ -100,7 +100,7 @@ test:
 
 # Times the proved side against the second implementation, and draws docs/performance.svg (docs/PERFORMANCE.md).
 bench: build
-	@.ci/told rt staticlib benchmark
+	@.ci/told rt staticlib host_benchmark
 	@cargo build --release --quiet --offline -p couplingnut-benchmark
 	@cargo run --release --quiet --offline -p couplingnut-benchmark -- measure
 

@@ -2,7 +2,7 @@
  * busread: what passed on the bus, line by line, from a register map and the samples of a recording.
  *
  * Exit status: 0 done; 1 the map or a sample was refused; 2 the command line is wrong; 3 input or output failed. Standard error
- * says which. The reading itself is proved code (crates/recording); here are the command line, the files and the words alone.
+ * says which. The reading itself is proved code (crates/text_recording); here are the command line, the files and the words alone.
  * COUPLINGNUT_VERSION comes from the build.
  */
 #include "couplingnut.h"

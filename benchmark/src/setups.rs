@@ -94,7 +94,7 @@ fn second_each(orders: &[Order], space: &mut Space) {
 /// One call against one by one, of the proved side; the costs are those of an order.
 pub fn measure(counts: bool) -> String {
     let mut text = String::from(
-        "| a setup of 40 orders | in one call, against one by one | ns in one call | ns one by one | instructions in one call | instructions one by one |\n\
+        "| a setup of 40 orders, bytes of each | one call against one by one | ns in one call | ns one by one | instructions in one call | instructions one by one |\n\
          |---|---|---|---|---|---|\n",
     );
     for (setup, each, bytes) in SETUPS {
@@ -113,12 +113,8 @@ pub fn measure(counts: bool) -> String {
             true => format!("{:.0} | {:.0}", count(&setup), count(&each)),
             false => "- | -".into(),
         };
-        writeln!(
-            text,
-            "| of {bytes} bytes | **{:.2}** | {one:.1} | {many:.1} | {counted} |",
-            times.ratio
-        )
-        .expect("a string grows");
+        writeln!(text, "| {bytes} | **{:.2}** | {one:.1} | {many:.1} | {counted} |", times.ratio)
+            .expect("a string grows");
     }
     text
 }

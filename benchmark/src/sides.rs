@@ -50,7 +50,7 @@ impl Space {
 }
 
 #[cfg(benchmark_library)]
-#[link(name = "benchmark", kind = "static")]
+#[link(name = "host_benchmark", kind = "static")]
 extern "C" {
     fn benchmark_read(
         map: *const u8,
@@ -120,7 +120,7 @@ fn proved_read(map: &[u8], samples: &[u8], space: &mut Space) {
 /// Stands in where the library is missing.
 #[cfg(not(benchmark_library))]
 fn proved_read(_: &[u8], _: &[u8], _: &mut Space) {
-    panic!("libbenchmark.a is missing; build it first: make bench")
+    panic!("libhost_benchmark.a is missing; build it first: make bench")
 }
 
 #[no_mangle]
@@ -172,7 +172,7 @@ fn proved_read_older(top: u64, map: &[u8], samples: &[u8], space: &mut Space) {
 /// Stands in where the library is missing.
 #[cfg(not(benchmark_library))]
 fn proved_read_older(_: u64, _: &[u8], _: &[u8], _: &mut Space) {
-    panic!("libbenchmark.a is missing; build it first: make bench")
+    panic!("libhost_benchmark.a is missing; build it first: make bench")
 }
 
 #[no_mangle]

@@ -10,25 +10,25 @@ use borrow.Author.Tests.{eq-eqb, ne-eqb, eqb-true}
 use lib.Dec.{eqb}
 use lib.ListN.{length, getD, set}
 use lib.Seq.{set-set}
-use Rattle.bits.proofs.Cases.{yes, no}
-use Rattle.chip.specs.declared.Chip.the-variants.{Newer}
-use Rattle.regmap.specs.Format.{countOf}
-use Rattle.ranges.proofs.Laws.{placed-outside}
-use Rattle.session.specs.declared.Event.{Event}
-use Rattle.session.specs.declared.Event.the-variants.{Nothing, Whole, Aborted, Ended}
-use Rattle.records.specs.Records.{recordOf}
-use Rattle.run.specs.Reading.{World, eventAt, worldAfter, runOf, recordsOf}
-use Rattle.several.specs.Samples.{Sample, samplesOf, seenBy, allSeenBy}
-use Rattle.several.specs.State as several
-use Rattle.several.specs.State.{State, contendedNow, stateAfter, given, isRead, numbered, recordAt, allAfter, recordsAt, runAll, recordsAll, bytesOf}
-use Rattle.several.specs.declared.Member.{Member}
-use Rattle.several.specs.Members.{stateOf, statesOf, placedAll}
-use Rattle.several.specs.Numbers.{rangesOf, severalNumber}
-use Rattle.several.specs.Calls.{Outcome, outcome, doneOf, severalOf}
-use Rattle.several.proofs.Accepted.{accepted}
-use Rattle.several.proofs.Kept.{banks-sized}
-use Rattle.several.proofs.Listed.{with-at, state-back}
-use Rattle.several.proofs.Memory.{AllRanged, AllMapped, own-banks, all-mapped}
+use Rattle.base_bits.proofs.Cases.{yes, no}
+use Rattle.base_chip.specs.declared.Chip.the-variants.{Newer}
+use Rattle.map_format.specs.Format.{countOf}
+use Rattle.reg_ranges.proofs.Laws.{placed-outside}
+use Rattle.bus_session.specs.declared.Event.{Event}
+use Rattle.bus_session.specs.declared.Event.the-variants.{Nothing, Whole, Aborted, Ended}
+use Rattle.read_records.specs.Records.{recordOf}
+use Rattle.read_run.specs.Reading.{ReaderState, eventAt, readerStateAfter, runOf, recordsOf}
+use Rattle.several_chips.specs.Samples.{Sample, samplesIn, seenBy, allSeenBy}
+use Rattle.several_chips.specs.State as several
+use Rattle.several_chips.specs.State.{State, contendedNow, stateAfter, given, isReadByte, numbered, recordAt, allAfter, recordsAt, runAll, recordsAll, joinedRecords}
+use Rattle.several_chips.specs.declared.Member.{Member}
+use Rattle.several_chips.specs.Members.{stateOf, statesOf, placedAll}
+use Rattle.several_chips.specs.Numbers.{rangesOf, severalNumber}
+use Rattle.several_chips.specs.Calls.{SeveralOutcome, severalOutcome, doneOf, severalOf}
+use Rattle.several_chips.proofs.Accepted.{accepted}
+use Rattle.several_chips.proofs.Kept.{banks-sized}
+use Rattle.several_chips.proofs.Listed.{with-at, state-back}
+use Rattle.several_chips.proofs.Memory.{AllRanged, AllMapped, own-banks, all-mapped}
 use Rattle.guarantees.specs.Alone.{alone, own, recordList, contended, withNumber, Outside, AsIfAlone, blotted, SameFor, NoOtherSelect}
 
 -- ---- a chip's records are its own
@@ -58,18 +58,18 @@ own-other k i n Ended c r = refl
 
 -- what a chip's record is made of
 abbrev marked : ℕ → State → Sample → Bool
-marked i s x = isRead (several.eventAt i s x) && contendedNow i s x
+marked i s x = isReadByte (several.chipEvent i s x) && contendedNow i s x
 
 abbrev ownRecord : List ℕ → State → Event → List ℕ
 ownRecord m s e = recordOf Newer m (s .banks) (s .session .port .settings) e
 
 record-same : (m : List ℕ) (k : ℕ) (s : State) (x : Sample) → own k (recordAt m k s x) ≡ recordAt m k s x
 unfolding recordAt
-record-same m k s x = own-same k (several.eventAt k s x) (marked k s x) (ownRecord m s (several.eventAt k s x))
+record-same m k s x = own-same k (several.chipEvent k s x) (marked k s x) (ownRecord m s (several.chipEvent k s x))
 
 record-other : (m : List ℕ) (k i : ℕ) → (i ≡ k → ⊥) → (s : State) (x : Sample) → own k (recordAt m i s x) ≡ []
 unfolding recordAt
-record-other m k i n s x = own-other k i n (several.eventAt i s x) (marked i s x) (ownRecord m s (several.eventAt i s x))
+record-other m k i n s x = own-other k i n (several.chipEvent i s x) (marked i s x) (ownRecord m s (several.chipEvent i s x))
 
 -- ---- one sample
 
@@ -135,7 +135,7 @@ follows m ss (x ∷ xs) words k d h =
     let s = getD ss k d in
     let z : 0 + k ≡ k = zero-add k in
     let next = after-sample m 0 k ss d x h ∙ ap (λ (j : ℕ). stateAfter m j s x) z in
-    let later = worldAfter Newer m (alone s words) (seenBy k x) .touched in
+    let later = readerStateAfter Newer m (alone s words) (seenBy k x) .touched in
     let rest =
     subst (λ (t : State). Follows m (allAfter m 0 ss x) xs later k t (getD (runAll m (allAfter m 0 ss x) xs) k d)) next
     (follows m (allAfter m 0 ss x) xs later k d (omega (arith, length-after m 0 ss x))) in
@@ -145,26 +145,26 @@ follows m ss (x ∷ xs) words k d h =
       records =
           own-append k (recordsAt m 0 ss x) (recordsAll m (allAfter m 0 ss x) xs)
           ∙ ap₂ (λ (a b : List (List ℕ)). a ++ b) (sym (ap (λ (j : ℕ). own j (recordsAt m 0 ss x)) z) ∙ own-sample m 0 k ss d x h ∙ ap (λ (j : ℕ). recordAt m j s x) z) (rest .records)
-          ∙ sym (with-given k (several.eventAt k s x) (marked k s x) (ownRecord m s (several.eventAt k s x)) (contended m k (stateAfter m k s x) xs) (recordList m (alone (stateAfter m k s x) later) (allSeenBy k xs)));
+          ∙ sym (with-given k (several.chipEvent k s x) (marked k s x) (ownRecord m s (several.chipEvent k s x)) (contended m k (stateAfter m k s x) xs) (recordList m (alone (stateAfter m k s x) later) (allSeenBy k xs)));
     }
 
 -- ---- the call
 
 -- one by one, or one after the other
-given-one : (m : List ℕ) (w : World) (e : Event) (rest : List (List ℕ))
-    → bytesOf (given e (recordOf Newer m (w .banks) (w .session .port .settings) e) ++ rest) ≡ recordOf Newer m (w .banks) (w .session .port .settings) e ++ bytesOf rest
-unfolding bytesOf recordOf
+given-one : (m : List ℕ) (w : ReaderState) (e : Event) (rest : List (List ℕ))
+    → joinedRecords (given e (recordOf Newer m (w .banks) (w .session .port .settings) e) ++ rest) ≡ recordOf Newer m (w .banks) (w .session .port .settings) e ++ joinedRecords rest
+unfolding joinedRecords recordOf
 given-one m w Nothing rest = refl
 given-one m w (Whole read a v) rest = refl
 given-one m w (Aborted a bits inData) rest = refl
 given-one m w Ended rest = refl
 
-pub one-by-one : (m : List ℕ) (w : World) (ys : List ℕ) → bytesOf (recordList m w ys) ≡ recordsOf Newer m w ys
-unfolding recordList recordsOf bytesOf
+pub one-by-one : (m : List ℕ) (w : ReaderState) (ys : List ℕ) → joinedRecords (recordList m w ys) ≡ recordsOf Newer m w ys
+unfolding recordList recordsOf joinedRecords
 one-by-one m w [] = refl
 one-by-one m w (y ∷ ys) =
-    given-one m w (eventAt Newer w y) (recordList m (worldAfter Newer m w y) ys)
-    ∙ ap (λ (l : List ℕ). recordOf Newer m (w .banks) (w .session .port .settings) (eventAt Newer w y) ++ l) (one-by-one m (worldAfter Newer m w y) ys)
+    given-one m w (eventAt Newer w y) (recordList m (readerStateAfter Newer m w y) ys)
+    ∙ ap (λ (l : List ℕ). recordOf Newer m (w .banks) (w .session .port .settings) (eventAt Newer w y) ++ l) (one-by-one m (readerStateAfter Newer m w y) ys)
 
 -- a byte outside all ranges
 pub placed-all-outside : (m mem : List ℕ) (ws : List Member) (ss : List State) (j : ℕ) → AllRanged m (length mem) ws → AllMapped m ss → Outside j (rangesOf ws)
@@ -204,7 +204,7 @@ unfolding severalOf
 number-zero m ws mem bytes old e = by (eqb (severalNumber m ws (length mem) bytes (length old)) 0) refl e
   where
     by : (t : Bool) → eqb (severalNumber m ws (length mem) bytes (length old)) 0 ≡ t
-        → (cond t (doneOf m ws mem bytes old) (outcome (severalNumber m ws (length mem) bytes (length old)) ws mem 0 old)) .number ≡ 0 → severalNumber m ws (length mem) bytes (length old) ≡ 0
+        → (cond t (doneOf m ws mem bytes old) (severalOutcome (severalNumber m ws (length mem) bytes (length old)) ws mem 0 old)) .number ≡ 0 → severalNumber m ws (length mem) bytes (length old) ≡ 0
     by true q z = eqb-true _ _ q
     by false q z = z
 
@@ -217,15 +217,15 @@ unfolding doneOf
 as-if-alone m ws mem bytes old words k d zero-number h =
     let number = number-zero m ws mem bytes old zero-number in
     let ok = accepted m ws (length mem) bytes (length old) number in
-    let xs = samplesOf bytes in
+    let xs = samplesIn bytes in
     let ss = statesOf mem ws in
     let after = runAll m ss xs in
     let e = stateOf mem d in
     let many = length-run m ss xs ∙ length-states mem ws in
     let mapped = mapped-run m ss xs (all-mapped m mem ws (ok .ranged)) in
     let done = severalOf-done m ws mem bytes old number in
-    let member = ap (λ (o : Outcome). getD (o .members) k d) done ∙ with-at ws after k d e many h in
-    let memory = ap (λ (o : Outcome). o .memory) done in
+    let member = ap (λ (o : SeveralOutcome). getD (o .members) k d) done ∙ with-at ws after k d e many h in
+    let memory = ap (λ (o : SeveralOutcome). o .memory) done in
     let held =
     ap₂ (λ (l : List ℕ) (v : Member). stateOf l v) memory member
     ∙ state-back (placedAll mem ws after) (getD ws k d) (getD after k e) (own-banks m mem ws after k d e (ok .ranged) mapped many h) in
@@ -252,18 +252,18 @@ blot-given k (Aborted a bits inData) c r rs = ap (λ (l : List ℕ). l ∷ map b
 blot-given k Ended c r rs = refl
 
 -- so it goes by what the chip sees
-plainList : List ℕ → ℕ → World → List ℕ → List (List ℕ)
+plainList : List ℕ → ℕ → ReaderState → List ℕ → List (List ℕ)
 plainList m k w [] = []
 plainList m k w (y ∷ ys) =
-    given (eventAt Newer w y) (k ∷ set (recordOf Newer m (w .banks) (w .session .port .settings) (eventAt Newer w y)) 5 0) ++ plainList m k (worldAfter Newer m w y) ys
+    given (eventAt Newer w y) (k ∷ set (recordOf Newer m (w .banks) (w .session .port .settings) (eventAt Newer w y)) 5 0) ++ plainList m k (readerStateAfter Newer m w y) ys
 
 blot-list : (m : List ℕ) (k : ℕ) (s : State) (words : List ℕ) (xs : List Sample)
     → map blotted (withNumber k (contended m k s xs) (recordList m (alone s words) (allSeenBy k xs))) ≡ plainList m k (alone s words) (allSeenBy k xs)
 unfolding withNumber contended recordList plainList stateAfter
 blot-list m k s words [] = refl
 blot-list m k s words (x ∷ xs) =
-    let e = several.eventAt k s x in
-    let later = worldAfter Newer m (alone s words) (seenBy k x) .touched in
+    let e = several.chipEvent k s x in
+    let later = readerStateAfter Newer m (alone s words) (seenBy k x) .touched in
     ap (map blotted) (with-given k e (marked k s x) (ownRecord m s e) (contended m k (stateAfter m k s x) xs) (recordList m (alone (stateAfter m k s x) later) (allSeenBy k xs)))
     ∙ blot-given k e (marked k s x) (ownRecord m s e) (withNumber k (contended m k (stateAfter m k s x) xs) (recordList m (alone (stateAfter m k s x) later) (allSeenBy k xs)))
     ∙ ap (λ (l : List (List ℕ)). given e (k ∷ set (ownRecord m s e) 5 0) ++ l) (blot-list m k (stateAfter m k s x) later xs)

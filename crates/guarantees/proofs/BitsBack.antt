@@ -8,8 +8,8 @@ use native.Mathlib.Numerals.{add-one}
 use native.Mathlib.Omega.{arith}
 use lib.Dec.{eqb}
 use lib.Pow.{shr-shr, mod-pow-add}
-use Rattle.bits.specs.Bits.{bitAt, bitOf, shiftedIn}
-use Rattle.order.specs.Samples.{highFirst, lowFirst, bitsOf}
+use Rattle.base_bits.specs.Bits.{bitAt, bitOf, shiftedIn}
+use Rattle.send_order.specs.Samples.{highFirst, lowFirst, bitsOf}
 
 -- the value of n bits with some more taken
 unfoldable pub takenIn : Bool → ℕ → ℕ → List Bool → ℕ

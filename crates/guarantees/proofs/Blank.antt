@@ -6,16 +6,16 @@ use Prim.Native.Nat.{ℕ, zero, suc, _+_, _-_, _*_, _≤_}
 use native.Mathlib.Omega.{arith}
 use lib.ListN.{length, getD, replicate}
 use lib.Dec.{ltb}
-use Rattle.bits.specs.Bytes.{byteAt}
-use Rattle.bits.specs.Tests.{every}
-use Rattle.bits.proofs.Cases.{yes}
-use Rattle.chip.specs.declared.Chip.the-variants.{Newer}
-use Rattle.regmap.specs.declared.Entry.{Entry}
-use Rattle.regmap.specs.Format.{entryStart, countOf, headOf, entryAt, registerAt}
-use Rattle.regmap.proofs.Laws.{head-bounds}
-use Rattle.maptest.specs.MapTest.{formTests, kindRule, placeKinds, placeRule, entryGood, entriesGood, furtherTests, mapNumber}
-use Rattle.maptest.proofs.Entries.{two-parts}
-use Rattle.maptest.proofs.Laws.{formed}
+use Rattle.base_bits.specs.Bytes.{byteAt}
+use Rattle.base_bits.specs.Tests.{every}
+use Rattle.base_bits.proofs.Cases.{yes}
+use Rattle.base_chip.specs.declared.Chip.the-variants.{Newer}
+use Rattle.map_format.specs.declared.Entry.{Entry}
+use Rattle.map_format.specs.Format.{entryStart, countOf, headOf, entryAt, registerAt}
+use Rattle.map_format.proofs.Laws.{head-bounds}
+use Rattle.map_test.specs.MapTest.{formTests, kindRule, placeKinds, placeRule, entryGood, entriesGood, furtherTests, mapNumber}
+use Rattle.map_test.proofs.Entries.{two-parts}
+use Rattle.map_test.proofs.Laws.{formed}
 use Rattle.guarantees.specs.Known.{entries16, map8192}
 
 repeated : (n i z : ℕ) → getD (replicate n z) i z ≡ z

@@ -9,27 +9,27 @@ use borrow.Author.Tests.{eqb-true, not-true}
 use lib.Dec.{eqb}
 use lib.ListN.{getD}
 use lib.Seq.{getD-set-other}
-use Rattle.bits.specs.Bits.{bitAt}
-use Rattle.bits.proofs.Cases.{each, and-left, and-right, or-left, or-right}
-use Rattle.chip.specs.declared.Chip.{Chip}
-use Rattle.chip.specs.declared.Chip.the-variants.{Newer, Older}
-use Rattle.chip.specs.Registers.{configurationA, configurationB}
-use Rattle.chip.specs.Chip.{isNewer, transferPlace}
-use Rattle.regmap.specs.Format.{registerAt, plain, buffered, control}
-use Rattle.maptest.specs.MapTest.{mapNumber}
-use Rattle.maptest.proofs.Laws.{control-at, control-transfer}
-use Rattle.card.specs.Card.{isMirror}
-use Rattle.settings.specs.Bits.{transferBit}
-use Rattle.settings.specs.Settings.{resets}
-use Rattle.registers.specs.Banks.{Banks, Mapped, defaultBanks, transferred}
-use Rattle.registers.proofs.Laws.{in-banks, getD-transfer}
-use Rattle.writing.specs.declared.Effect.{Effect}
-use Rattle.writing.specs.declared.Effect.the-variants.{Control, Transfer, Reset, Ignored}
-use Rattle.writing.specs.Effect.{controlEffect, effectOf}
-use Rattle.writing.specs.Write.{effectAt, applied, writeBanks}
-use Rattle.writing.specs.Rise.{movesAtRise, armedBy, riseBanks}
-use Rattle.writing.proofs.Laws.{mapped-write}
-use Rattle.order.specs.Order.{RunByte}
+use Rattle.base_bits.specs.Bits.{bitAt}
+use Rattle.base_bits.proofs.Cases.{each, and-left, and-right, or-left, or-right}
+use Rattle.base_chip.specs.declared.Chip.{Chip}
+use Rattle.base_chip.specs.declared.Chip.the-variants.{Newer, Older}
+use Rattle.base_chip.specs.Registers.{configurationA, configurationB}
+use Rattle.base_chip.specs.Chip.{isNewer, transferPlace}
+use Rattle.map_format.specs.Format.{registerAt, plain, buffered, control}
+use Rattle.map_test.specs.MapTest.{mapNumber}
+use Rattle.map_test.proofs.Laws.{control-at, control-transfer}
+use Rattle.base_card.specs.Card.{isMirror}
+use Rattle.bus_settings.specs.Bits.{transferBit}
+use Rattle.bus_settings.specs.Settings.{resets}
+use Rattle.reg_banks.specs.Banks.{Banks, Mapped, defaultBanks, transferred}
+use Rattle.reg_banks.proofs.Laws.{in-banks, getD-transfer}
+use Rattle.reg_write.specs.declared.Effect.{Effect}
+use Rattle.reg_write.specs.declared.Effect.the-variants.{Control, Transfer, Reset, Ignored}
+use Rattle.reg_write.specs.Effect.{controlEffect, effectOf}
+use Rattle.reg_write.specs.Write.{effectAt, applied, writeBanks}
+use Rattle.reg_write.specs.Rise.{movesAtRise, armedBy, riseBanks}
+use Rattle.reg_write.proofs.Laws.{mapped-write}
+use Rattle.send_order.specs.Order.{RunByte}
 use Rattle.guarantees.specs.Book.{writeAll, armedAll, setsAnything, clearOfSettings}
 use Rattle.guarantees.specs.InForce.{isTransfer, anyTransfer, isReset, anyReset, ClearOfResets, anyBuffered}
 

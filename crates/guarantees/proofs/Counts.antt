@@ -7,11 +7,11 @@ use native.Mathlib.Omega.{arith}
 use lib.Dec.{leb}
 use lib.ListN.{length, take}
 use borrow.Author.Tests.{leb-true, leb-false}
-use Rattle.chip.specs.declared.Chip.{Chip}
-use Rattle.records.specs.BanksAfter.{banksAfter, armedAfter, touchedAfter}
-use Rattle.run.specs.Reading.{World, runOf}
-use Rattle.order.specs.Order.{Order, RunByte, isRead, goesUp, isSingle, sentBytes, runBytes}
-use Rattle.order.proofs.Laws.{length-run-from, length-sent, length-counted, admitted}
+use Rattle.base_chip.specs.declared.Chip.{Chip}
+use Rattle.read_records.specs.BanksAfter.{banksAfter, armedAfter, touchedAfter}
+use Rattle.read_run.specs.Reading.{ReaderState, runOf}
+use Rattle.send_order.specs.Order.{Order, RunByte, isRead, goesUp, isSingle, sentBytes, runBytes}
+use Rattle.send_order.proofs.Laws.{length-run-from, length-sent, length-counted, admitted}
 use Rattle.guarantees.specs.AtRest.{AtRest, Accepted}
 use Rattle.guarantees.specs.Book.{wholeAfter, wholeBytes, wholeRun, writeAll, armedAll, touchedAll}
 use Rattle.guarantees.specs.Counts.{SampleCount, WholeByte, WholeEffect}
@@ -57,7 +57,7 @@ held-written c m h [] = refl
 held-written c m h (p ∷ ps) = held-written c m (heldOn c m h (wholeOf false p)) ps
 
 -- what a write leaves before the raise
-pub run-written : (c : Chip) (m : List ℕ) (w : World) (o : Order) (room s : ℕ) → AtRest c m w o → Accepted c o room → isRead o ≡ false
+pub run-written : (c : Chip) (m : List ℕ) (w : ReaderState) (o : Order) (room s : ℕ) → AtRest c m w o → Accepted c o room → isRead o ≡ false
     → heldIn (runOf c m w (take s (unraised c o)))
     ≡ record {
       armed = armedAll c m (wholeRun c o s) (w .banks) (w .session .armed);

@@ -6,40 +6,40 @@ use mathlib.Core.List.{List, [], _∷_, _++_}
 use lib.Dec.{leb}
 use lib.ListN.{length}
 use borrow.Author.Tests.{le-leb, eq-eqb}
-use Rattle.sizes.specs.Sizes.{recordSize}
-use Rattle.bits.proofs.Cases.{and-left, and-right}
-use Rattle.regmap.specs.Format.{countOf}
-use Rattle.chip.specs.declared.Chip.{Chip}
-use Rattle.maptest.specs.MapTest.{mapNumber, topFits}
-use Rattle.session.specs.State.{soundSession}
-use Rattle.session.specs.Event.{eventOf}
-use Rattle.registers.specs.Banks.{Banks, Mapped}
-use Rattle.run.specs.Reading.{World, worldAfter, runOf, recordCount}
-use Rattle.refusals.specs.Numbers.{samplesGood, banksFit, wordsFit, readNumber}
-use Rattle.refusals.proofs.Laws.{fits-mapped}
-use Rattle.records.proofs.Laws.{mapped-after, length-after}
-use Rattle.records.proofs.Arming.{sound-kept}
-use Rattle.order.specs.Order.{Order}
-use Rattle.order.specs.Samples.{clocked, orderBits, samplesOf}
-use Rattle.order.proofs.Laws.{admitted, most-samples}
+use Rattle.base_sizes.specs.Sizes.{recordSize}
+use Rattle.base_bits.proofs.Cases.{and-left, and-right}
+use Rattle.map_format.specs.Format.{countOf}
+use Rattle.base_chip.specs.declared.Chip.{Chip}
+use Rattle.map_test.specs.MapTest.{mapNumber, topFits}
+use Rattle.bus_session.specs.State.{soundSession}
+use Rattle.bus_session.specs.Event.{eventOf}
+use Rattle.reg_banks.specs.Banks.{Banks, Mapped}
+use Rattle.read_run.specs.Reading.{ReaderState, readerStateAfter, runOf, recordCount}
+use Rattle.read_refusals.specs.Numbers.{samplesGood, banksFit, wordsFit, readNumber}
+use Rattle.read_refusals.proofs.Laws.{fits-mapped}
+use Rattle.read_records.proofs.Laws.{mapped-after, length-after}
+use Rattle.read_records.proofs.Arming.{sound-kept}
+use Rattle.send_order.specs.Order.{Order}
+use Rattle.send_order.specs.Samples.{clocked, orderBits, samplesOf}
+use Rattle.send_order.proofs.Laws.{admitted, most-samples}
 use Rattle.guarantees.specs.AtRest.{AtRest, Accepted}
 
 -- what a call asks of a map, a session and its banks
-pub record Sound (c : Chip) (m : List ℕ) (w : World) : Type 0 where
+pub record Sound (c : Chip) (m : List ℕ) (w : ReaderState) : Type 0 where
   pub session-sound : soundSession c (w .session) ≡ true
   pub mapped : Mapped m (w .banks)
   pub words : wordsFit m (w .touched) ≡ true
 
-pub sound-run : (c : Chip) (m : List ℕ) (w : World) (xs : List ℕ) → soundSession c (w .session) ≡ true → soundSession c (runOf c m w xs .session) ≡ true
+pub sound-run : (c : Chip) (m : List ℕ) (w : ReaderState) (xs : List ℕ) → soundSession c (w .session) ≡ true → soundSession c (runOf c m w xs .session) ≡ true
 unfolding runOf
 sound-run c m w [] h = h
-sound-run c m w (x ∷ xs) h = sound-run c m (worldAfter c m w x) xs (sound-kept c m (w .session) (w .banks) x h)
+sound-run c m w (x ∷ xs) h = sound-run c m (readerStateAfter c m w x) xs (sound-kept c m (w .session) (w .banks) x h)
 
-pub run-sound : (c : Chip) (m : List ℕ) (w : World) (xs : List ℕ) → Sound c m w → Sound c m (runOf c m w xs)
+pub run-sound : (c : Chip) (m : List ℕ) (w : ReaderState) (xs : List ℕ) → Sound c m w → Sound c m (runOf c m w xs)
 unfolding runOf
 run-sound c m w [] h = h
 run-sound c m w (x ∷ xs) h =
-    run-sound c m (worldAfter c m w x) xs
+    run-sound c m (readerStateAfter c m w x) xs
     (record {
       session-sound = sound-kept c m (w .session) (w .banks) x (h .session-sound);
       mapped = mapped-after c m (w .session .armed) (w .banks) (eventOf c (w .session .port) x) (h .mapped);
@@ -53,7 +53,7 @@ mapped-fits m b h =
 
 -- the reader gives no number: a call is done on its conditions
 pub no-refusal :
-    (c : Chip) (m : List ℕ) (w : World) (xs : List ℕ) (room : ℕ) → mapNumber c m ≡ 0 → topFits c m ≡ true → Sound c m w → samplesGood xs ≡ true
+    (c : Chip) (m : List ℕ) (w : ReaderState) (xs : List ℕ) (room : ℕ) → mapNumber c m ≡ 0 → topFits c m ≡ true → Sound c m w → samplesGood xs ≡ true
     → length xs ≤ 65536 → recordSize * recordCount c (w .session .port) xs ≤ room → readNumber c m w xs room ≡ 0
 unfolding readNumber
 no-refusal c m w xs room good top h fine few enough =
@@ -69,7 +69,7 @@ no-refusal c m w xs room good top h fine few enough =
     )
 
 -- a session at rest, with its banks
-pub rest-sound : (c : Chip) (m : List ℕ) (w : World) (o : Order) → AtRest c m w o → Sound c m w
+pub rest-sound : (c : Chip) (m : List ℕ) (w : ReaderState) (o : Order) → AtRest c m w o → Sound c m w
 rest-sound c m w o rest =
     record { session-sound = rest .sound; mapped = fits-mapped m (w .banks) (rest .bank-sizes); words = rest .words }
 

@@ -6,23 +6,23 @@ use mathlib.Core.List.{List, [], _∷_, _++_, foldl}
 use native.Mathlib.Omega.{arith}
 use lib.Dec.{eqb}
 use lib.ListN.{length}
-use Rattle.bits.specs.Bits.{bitAt}
-use Rattle.bits.proofs.Cases.{each}
-use Rattle.chip.specs.declared.Part.{Part}
-use Rattle.chip.specs.declared.Chip.{Chip}
-use Rattle.chip.specs.declared.Chip.the-variants.{Newer, Older}
-use Rattle.settings.specs.declared.Settings.{Settings}
-use Rattle.settings.specs.Settings.{inUseOf, counting}
-use Rattle.session.specs.declared.Port.{Port}
-use Rattle.session.specs.State.{atLevels, resting, starting, inData, isCounted}
-use Rattle.session.specs.Step.{stepOf}
-use Rattle.session.specs.Event.{eventOf}
-use Rattle.session.proofs.Laws.{port-sound}
-use Rattle.records.specs.Records.{recordsIn}
-use Rattle.run.specs.Reading.{World, worldAfter, runOf}
-use Rattle.order.specs.Order.{Order, RunByte, isRead, sentBytes, runFrom}
-use Rattle.order.specs.Samples.{bitsOf, instructionOf, lengthAndAddress, runBits, clocked, orderBits}
-use Rattle.order.proofs.Laws.{clocked-append, length-sent, admitted}
+use Rattle.base_bits.specs.Bits.{bitAt}
+use Rattle.base_bits.proofs.Cases.{each}
+use Rattle.base_chip.specs.declared.Part.{Part}
+use Rattle.base_chip.specs.declared.Chip.{Chip}
+use Rattle.base_chip.specs.declared.Chip.the-variants.{Newer, Older}
+use Rattle.bus_settings.specs.declared.Settings.{Settings}
+use Rattle.bus_settings.specs.Settings.{inUseOf, counting}
+use Rattle.bus_session.specs.declared.Port.{Port}
+use Rattle.bus_session.specs.State.{atLevels, resting, starting, inData, isCounted}
+use Rattle.bus_session.specs.Step.{stepOf}
+use Rattle.bus_session.specs.Event.{eventOf}
+use Rattle.bus_session.proofs.Laws.{port-sound}
+use Rattle.read_records.specs.Records.{recordsIn}
+use Rattle.read_run.specs.Reading.{ReaderState, readerStateAfter, runOf}
+use Rattle.send_order.specs.Order.{Order, RunByte, isRead, sentBytes, runFrom}
+use Rattle.send_order.specs.Samples.{bitsOf, instructionOf, lengthAndAddress, runBits, clocked, orderBits}
+use Rattle.send_order.proofs.Laws.{clocked-append, length-sent, admitted}
 use Rattle.guarantees.specs.AtRest.{AtRest, Accepted}
 use Rattle.guarantees.proofs.Pieces.{leftOf, stepped-instruction}
 use Rattle.guarantees.proofs.Runs.{AllFit, fold-append, ending, run-no-bits}
@@ -44,23 +44,23 @@ end-rests c s h = by-levels (s .csb) (s .sclk)
     by-levels false false = rw h
 
 -- the port alone decides the next one
-run-port : (c : Chip) (m : List ℕ) (w : World) (xs : List ℕ) → runOf c m w xs .session .port ≡ foldl (stepOf c) (w .session .port) xs
+run-port : (c : Chip) (m : List ℕ) (w : ReaderState) (xs : List ℕ) → runOf c m w xs .session .port ≡ foldl (stepOf c) (w .session .port) xs
 unfolding runOf
 run-port c m w [] = refl
-run-port c m w (x ∷ xs) = run-port c m (worldAfter c m w x) xs
+run-port c m w (x ∷ xs) = run-port c m (readerStateAfter c m w x) xs
 
 -- the bits of a stream on an older chip
 older-none : (part : Part) (top : ℕ) (read : Bool) (t : Settings) (k a : ℕ) (vs : List ℕ) → Ready (Older part top) t k a vs
-    → AllFit (Older part top) read (inUseOf t) t (runFrom (t .lsb) a vs) → Remaining (length vs) (leftOf (Older part top) k)
+    → AllFit (Older part top) read (inUseOf t) t (runFrom (t .«lsb_first») a vs) → Remaining (length vs) (leftOf (Older part top) k)
     → isCounted
     (foldl (stepOf (Older part top)) (starting false t)
-    (clocked (bitsOf (t .lsb) 16 (instructionOf read (lengthAndAddress (Older part top) k a)) ++ runBits false read (t .lsb) (runFrom (t .lsb) a vs))) .left)
+    (clocked (bitsOf (t .«lsb_first») 16 (instructionOf read (lengthAndAddress (Older part top) k a)) ++ runBits false read (t .«lsb_first») (runFrom (t .«lsb_first») a vs))) .left)
     ≡ false
 older-none part top read t k a [] r fit left = absurd (omega (arith, r .some))
 older-none part top read t k a (v ∷ vs) r fit left =
     let step = stepOf (Older part top) in
-    let instruction = bitsOf (t .lsb) 16 (instructionOf read (lengthAndAddress (Older part top) k a)) in
-    let rest = runBits false read (t .lsb) (runFrom (t .lsb) a (v ∷ vs)) in
+    let instruction = bitsOf (t .«lsb_first») 16 (instructionOf read (lengthAndAddress (Older part top) k a)) in
+    let rest = runBits false read (t .«lsb_first») (runFrom (t .«lsb_first») a (v ∷ vs)) in
     ap (λ (s : Port). isCounted (s .left))
     (ap (foldl step (starting false t)) (clocked-append instruction rest)
     ∙ fold-append step (starting false t) (clocked instruction) (clocked rest)
@@ -68,7 +68,7 @@ older-none part top read t k a (v ∷ vs) r fit left =
     ∙ older-left part top read (inUseOf t) vs v t a (leftOf (Older part top) k) true fit (r .goes) left
 
 -- behind the bits of an order no counted run is left
-pub none-left : (c : Chip) (m : List ℕ) (w : World) (o : Order) (room : ℕ) → AtRest c m w o → Accepted c o room
+pub none-left : (c : Chip) (m : List ℕ) (w : ReaderState) (o : Order) (room : ℕ) → AtRest c m w o → Accepted c o room
     → isCounted (runOf c m w (0x00 ∷ clocked (orderBits c o)) .session .port .left) ≡ false
 unfolding orderBits stepOf bitAt
 none-left Newer m w o room rest accepted =
@@ -90,33 +90,33 @@ start-no-bits :
     (c : Chip) (read : Bool) (t : Settings) (k a : ℕ) (vs : List ℕ) → Ready c t k a vs
     → AllFit c read (inUseOf t) t (runFrom (counting c (inUseOf t) .ascending) a vs)
     → foldl (stepOf c) (starting false t)
-    (clocked (bitsFrom (counting c (inUseOf t) .single) read (t .lsb) (lengthAndAddress c k a) (runFrom (counting c (inUseOf t) .ascending) a vs))) .bits
+    (clocked (bitsFrom (counting c (inUseOf t) .«single_instruction») read (t .«lsb_first») (lengthAndAddress c k a) (runFrom (counting c (inUseOf t) .ascending) a vs))) .bits
     ≡ 0
 start-no-bits c read t k a [] r fit = absurd (omega (arith, r .some))
 start-no-bits c read t k a (v ∷ vs) r fit =
-    by-mode (counting c (inUseOf t) .single)
+    by-mode (counting c (inUseOf t) .«single_instruction»)
     (λ sclk. run-no-bits c read (inUseOf t) vs v t a (leftOf c k) sclk fit (r .goes) (single-leaves c (inUseOf t) k))
   where
     ps : List RunByte
     ps = runFrom (counting c (inUseOf t) .ascending) a (v ∷ vs)
 
     instruction : List Bool
-    instruction = bitsOf (t .lsb) 16 (instructionOf read (lengthAndAddress c k a))
+    instruction = bitsOf (t .«lsb_first») 16 (instructionOf read (lengthAndAddress c k a))
 
     by-mode :
         (single : Bool)
         → ((sclk : Bool)
-        → foldl (stepOf c) (cond single (starting sclk t) (inData sclk 0 0 a read (leftOf c k) t (inUseOf t))) (clocked (runBits single read (t .lsb) ps)) .bits ≡ 0)
-        → foldl (stepOf c) (starting false t) (clocked (bitsFrom single read (t .lsb) (lengthAndAddress c k a) ps)) .bits ≡ 0
+        → foldl (stepOf c) (cond single (starting sclk t) (inData sclk 0 0 a read (leftOf c k) t (inUseOf t))) (clocked (runBits single read (t .«lsb_first») ps)) .bits ≡ 0)
+        → foldl (stepOf c) (starting false t) (clocked (bitsFrom single read (t .«lsb_first») (lengthAndAddress c k a) ps)) .bits ≡ 0
     by-mode true bytes = bytes false
     by-mode false bytes =
         ap (λ (s : Port). s .bits)
-        (ap (foldl (stepOf c) (starting false t)) (clocked-append instruction (runBits false read (t .lsb) ps))
-        ∙ fold-append (stepOf c) (starting false t) (clocked instruction) (clocked (runBits false read (t .lsb) ps))
-        ∙ ap (λ (s : Port). foldl (stepOf c) s (clocked (runBits false read (t .lsb) ps))) (stepped-instruction c k read t (inUseOf t) a (r .top) (r .start) false))
+        (ap (foldl (stepOf c) (starting false t)) (clocked-append instruction (runBits false read (t .«lsb_first») ps))
+        ∙ fold-append (stepOf c) (starting false t) (clocked instruction) (clocked (runBits false read (t .«lsb_first») ps))
+        ∙ ap (λ (s : Port). foldl (stepOf c) s (clocked (runBits false read (t .«lsb_first») ps))) (stepped-instruction c k read t (inUseOf t) a (r .top) (r .start) false))
         ∙ bytes true
 
-order-no-bits : (c : Chip) (m : List ℕ) (w : World) (o : Order) (room : ℕ) → AtRest c m w o → Accepted c o room
+order-no-bits : (c : Chip) (m : List ℕ) (w : ReaderState) (o : Order) (room : ℕ) → AtRest c m w o → Accepted c o room
     → runOf c m w (0x00 ∷ clocked (orderBits c o)) .session .port .bits ≡ 0
 unfolding orderBits stepOf bitAt
 order-no-bits c m w o room rest accepted =
@@ -137,9 +137,9 @@ low-no-bits c s e = by-csb (s .csb) refl
     by-csb false ec = rw (ec, and-false) e
 
 -- so the raise at the end breaks nothing off
-pub end-no-record : (c : Chip) (m : List ℕ) (w : World) (o : Order) (room : ℕ) → AtRest c m w o → Accepted c o room
+pub end-no-record : (c : Chip) (m : List ℕ) (w : ReaderState) (o : Order) (room : ℕ) → AtRest c m w o → Accepted c o room
     → recordsIn (eventOf c (runOf c m w (unraised c o) .session .port) 0x01) ≡ 0
 unfolding runOf bitAt
 end-no-record c m w o room rest accepted =
-    ap (λ (v : World). recordsIn (eventOf c (v .session .port) 0x01)) (run-append c m w (0x00 ∷ clocked (orderBits c o)) ending)
+    ap (λ (v : ReaderState). recordsIn (eventOf c (v .session .port) 0x01)) (run-append c m w (0x00 ∷ clocked (orderBits c o)) ending)
     ∙ raise-no-record 0x01 refl c _ (low-no-bits c _ (order-no-bits c m w o room rest accepted))

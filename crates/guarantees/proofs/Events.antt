@@ -5,23 +5,23 @@ use mathlib.Core.Bool.{Bool, true, false, cond, not, _&&_}
 use mathlib.Core.List.{List, [], _∷_, _++_, foldl}
 use native.Mathlib.Omega.{arith}
 use lib.Dec.{eqb, ltb}
-use Rattle.bits.proofs.Cases.{each}
-use Rattle.chip.specs.declared.Chip.{Chip}
-use Rattle.settings.specs.declared.Settings.{Settings}
-use Rattle.settings.specs.Settings.{settingsAfter}
-use Rattle.session.specs.declared.Phase.{Phase}
-use Rattle.session.specs.declared.Phase.the-variants.{Rest, Instruction, Data}
-use Rattle.session.specs.declared.Port.{Port}
-use Rattle.session.specs.declared.Event.{Event}
-use Rattle.session.specs.declared.Event.the-variants.{Nothing, Whole, Aborted, Ended}
-use Rattle.session.specs.State.{resting, starting, withLevels, isData, mayStall}
-use Rattle.session.specs.Step.{csbOf, sclkOf, dataLine, valueWith, usedOn, runEnds, settingsOnByte, withInstructionBit, withDataBit, withBit, stepOf}
-use Rattle.session.specs.Event.{bitEvent, endEvent, eventOf}
-use Rattle.session.proofs.Laws.{entered-settings}
-use Rattle.registers.specs.Banks.{Banks}
-use Rattle.records.specs.Records.{recordOf, recordsIn}
-use Rattle.records.specs.BanksAfter.{banksAfter, armedAfter, touchedAfter}
-use Rattle.run.specs.Reading.{World, worldAfter, runOf, recordsOf, recordCount}
+use Rattle.base_bits.proofs.Cases.{each}
+use Rattle.base_chip.specs.declared.Chip.{Chip}
+use Rattle.bus_settings.specs.declared.Settings.{Settings}
+use Rattle.bus_settings.specs.Settings.{settingsAfter}
+use Rattle.bus_session.specs.declared.Phase.{Phase}
+use Rattle.bus_session.specs.declared.Phase.the-variants.{Rest, Instruction, Data}
+use Rattle.bus_session.specs.declared.Port.{Port}
+use Rattle.bus_session.specs.declared.Event.{Event}
+use Rattle.bus_session.specs.declared.Event.the-variants.{Nothing, Whole, Aborted, Ended}
+use Rattle.bus_session.specs.State.{resting, starting, withLevels, isData, mayStall}
+use Rattle.bus_session.specs.Step.{csbOf, sclkOf, dataLine, valueWith, inUseOn, runEnds, settingsOnByte, withInstructionBit, withDataBit, withBit, stepOf}
+use Rattle.bus_session.specs.Event.{bitEvent, endEvent, eventOf}
+use Rattle.bus_session.proofs.Laws.{entered-settings}
+use Rattle.reg_banks.specs.Banks.{Banks}
+use Rattle.read_records.specs.Records.{recordOf, recordsIn}
+use Rattle.read_records.specs.BanksAfter.{banksAfter, armedAfter, touchedAfter}
+use Rattle.read_run.specs.Reading.{ReaderState, readerStateAfter, runOf, recordsOf, recordCount}
 
 -- an event is noted unless it is nothing
 abbrev pub noted : Event → List Event → List Event
@@ -47,14 +47,14 @@ noted-fold f still a Ended es = refl
 
 -- a part of the world that each sample changes as its event says
 run-fold :
-    {A : Type 0} (c : Chip) (m : List ℕ) (f : A → Event → A) (part : World → A) → ((a : A) → f a Nothing ≡ a)
-    → ((w : World) (x : ℕ) → part (worldAfter c m w x) ≡ f (part w) (eventOf c (w .session .port) x))
-    → (w : World) (xs : List ℕ) → part (runOf c m w xs) ≡ foldl f (part w) (eventsOf c (w .session .port) xs)
+    {A : Type 0} (c : Chip) (m : List ℕ) (f : A → Event → A) (part : ReaderState → A) → ((a : A) → f a Nothing ≡ a)
+    → ((w : ReaderState) (x : ℕ) → part (readerStateAfter c m w x) ≡ f (part w) (eventOf c (w .session .port) x))
+    → (w : ReaderState) (xs : List ℕ) → part (runOf c m w xs) ≡ foldl f (part w) (eventsOf c (w .session .port) xs)
 unfolding runOf eventsOf
 run-fold c m f part still moves w [] = refl
 run-fold c m f part still moves w (x ∷ xs) =
     let more : List Event = eventsOf c (stepOf c (w .session .port) x) xs in
-    run-fold c m f part still moves (worldAfter c m w x) xs
+    run-fold c m f part still moves (readerStateAfter c m w x) xs
     ∙ ap (λ a. foldl f a more) (moves w x)
     ∙ noted-fold f still (part w) (eventOf c (w .session .port) x) more
 
@@ -64,7 +64,7 @@ pub record Held : Type 0 where
   pub banks : Banks
   pub touched : List ℕ
 
-abbrev pub heldIn : World → Held
+abbrev pub heldIn : ReaderState → Held
 heldIn w = record { armed = w .session .armed; banks = w .banks; touched = w .touched }
 
 abbrev pub heldOn : Chip → List ℕ → Held → Event → Held
@@ -74,7 +74,7 @@ heldOn c m h e = record {
   touched = touchedAfter c m (h .touched) (h .banks) e;
 }
 
-pub run-held : (c : Chip) (m : List ℕ) (w : World) (xs : List ℕ) → heldIn (runOf c m w xs) ≡ foldl (heldOn c m) (heldIn w) (eventsOf c (w .session .port) xs)
+pub run-held : (c : Chip) (m : List ℕ) (w : ReaderState) (xs : List ℕ) → heldIn (runOf c m w xs) ≡ foldl (heldOn c m) (heldIn w) (eventsOf c (w .session .port) xs)
 unfolding banksAfter armedAfter touchedAfter
 run-held c m w xs = run-fold c m (heldOn c m) heldIn (λ h. refl) (λ w x. refl) w xs
 
@@ -104,11 +104,11 @@ module _ (c : Chip) (s : Port) (x : ℕ) where
   unfolding withInstructionBit withDataBit
   settings-bit Rest = refl
   settings-bit Instruction =
-      each (λ (next : Port). Follows next Nothing) (ltb (s .bits) 15) (λ e. refl) (λ e. entered-settings c _ (s .settings) (s .used))
+      each (λ (next : Port). Follows next Nothing) (ltb (s .bits) 15) (λ e. refl) (λ e. entered-settings c _ (s .settings) (s .«in_use»))
   settings-bit Data =
       let v : ℕ = valueWith s (dataLine c s x) in
       both Follows (ltb (s .bits) 7) refl
-      (each (λ (next : Port). next .settings ≡ settingsOnByte c s v) (usedOn c s .single) (λ e. refl)
+      (each (λ (next : Port). next .settings ≡ settingsOnByte c s v) (inUseOn c s .«single_instruction») (λ e. refl)
       (λ e. each (λ (next : Port). next .settings ≡ settingsOnByte c s v) (runEnds c s) (λ e. refl) (λ e. refl)))
 
   pub settings-step : Follows (stepOf c s x) (eventOf c s x)
@@ -131,7 +131,7 @@ module _ (c : Chip) (s : Port) (x : ℕ) where
           ends = each (λ (e : Event). s .settings ≡ settingsOn c (s .settings) e) (eqb (s .bits) 0) (λ e. refl) (λ e. refl)
 
 pub run-settings :
-    (c : Chip) (m : List ℕ) (w : World) (xs : List ℕ)
+    (c : Chip) (m : List ℕ) (w : ReaderState) (xs : List ℕ)
     → runOf c m w xs .session .port .settings ≡ foldl (settingsOn c) (w .session .port .settings) (eventsOf c (w .session .port) xs)
 run-settings c m w xs =
     run-fold c m (settingsOn c) (λ w. w .session .port .settings) (λ t. refl) (λ w x. settings-step c (w .session .port) x) w xs
@@ -153,7 +153,7 @@ noted-records c m h t (Aborted a bits inData) es = refl
 noted-records c m h t Ended es = refl
 
 pub run-records :
-    (c : Chip) (m : List ℕ) (w : World) (xs : List ℕ)
+    (c : Chip) (m : List ℕ) (w : ReaderState) (xs : List ℕ)
     → recordsOf c m w xs ≡ recordsBy c m (heldIn w) (w .session .port .settings) (eventsOf c (w .session .port) xs)
 unfolding recordsOf eventsOf recordsBy
 run-records c m w [] = refl
@@ -161,7 +161,7 @@ run-records c m w (x ∷ xs) =
     let e : Event = eventOf c (w .session .port) x in
     let more : List Event = eventsOf c (stepOf c (w .session .port) x) xs in
     ap (λ (l : List ℕ). recordOf c m (w .banks) (w .session .port .settings) e ++ l)
-    (run-records c m (worldAfter c m w x) xs ∙ ap (λ (t : Settings). recordsBy c m (heldOn c m (heldIn w) e) t more) (settings-step c (w .session .port) x))
+    (run-records c m (readerStateAfter c m w x) xs ∙ ap (λ (t : Settings). recordsBy c m (heldOn c m (heldIn w) e) t more) (settings-step c (w .session .port) x))
     ∙ noted-records c m (heldIn w) (w .session .port .settings) e more
 
 -- how many records some events give

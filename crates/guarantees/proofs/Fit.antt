@@ -9,18 +9,18 @@ use lib.Dec.{eqb, ltb}
 use lib.ListN.{replicate}
 use lib.Pow.{areBytes}
 use borrow.Author.Tests.{ltb-true}
-use Rattle.bits.proofs.Cases.{each, and-left, and-right, or-left, or-right}
-use Rattle.chip.specs.declared.Chip.{Chip}
-use Rattle.chip.specs.declared.Chip.the-variants.{Newer, Older}
-use Rattle.chip.specs.Registers.{configurationA, configurationB}
-use Rattle.settings.specs.declared.Settings.{Settings}
-use Rattle.settings.specs.declared.InUse.{InUse}
-use Rattle.settings.specs.Settings.{inUseOf, counting, nextAddress, newerAfter}
-use Rattle.settings.proofs.Laws.{next-lt}
-use Rattle.run.specs.Reading.{World}
-use Rattle.order.specs.Order.{Order, RunByte, isRead, runFrom, sentBytes}
-use Rattle.order.specs.Number.{isConfiguration, configuresEarly}
-use Rattle.order.proofs.Laws.{admitted}
+use Rattle.base_bits.proofs.Cases.{each, and-left, and-right, or-left, or-right}
+use Rattle.base_chip.specs.declared.Chip.{Chip}
+use Rattle.base_chip.specs.declared.Chip.the-variants.{Newer, Older}
+use Rattle.base_chip.specs.Registers.{configurationA, configurationB}
+use Rattle.bus_settings.specs.declared.Settings.{Settings}
+use Rattle.bus_settings.specs.declared.InUse.{InUse}
+use Rattle.bus_settings.specs.Settings.{inUseOf, counting, nextAddress, newerAfter}
+use Rattle.bus_settings.proofs.Laws.{next-lt}
+use Rattle.read_run.specs.Reading.{ReaderState}
+use Rattle.send_order.specs.Order.{Order, RunByte, isRead, runFrom, sentBytes}
+use Rattle.send_order.specs.Number.{isConfiguration, configuresEarly}
+use Rattle.send_order.proofs.Laws.{admitted}
 use Rattle.guarantees.specs.AtRest.{countingOf, AtRest, Accepted}
 use Rattle.guarantees.proofs.Events.{settingsOn}
 use Rattle.guarantees.proofs.Runs.{wholeOf, AllFit}
@@ -51,9 +51,9 @@ settings-kept t p h =
 -- only the last byte may
 steady-on :
     (c : Chip) (read : Bool) (u : InUse) (t : Settings) (p : RunByte) (early : Bool)
-    → (counting c u .single && not read && (isConfiguration p || early)) ≡ false → cond (counting c u .single) (inUseOf t) u ≡ u
-    → cond (counting c u .single) (inUseOf (settingsOn c t (wholeOf read p))) u ≡ u
-steady-on Newer read u t p early h e = by-mode (u .single) read h e
+    → (counting c u .«single_instruction» && not read && (isConfiguration p || early)) ≡ false → cond (counting c u .«single_instruction») (inUseOf t) u ≡ u
+    → cond (counting c u .«single_instruction») (inUseOf (settingsOn c t (wholeOf read p))) u ≡ u
+steady-on Newer read u t p early h e = by-mode (u .«single_instruction») read h e
   where
     by-mode :
         (single read : Bool) → (single && not read && (isConfiguration p || early)) ≡ false → cond single (inUseOf t) u ≡ u
@@ -74,8 +74,8 @@ module _ (c : Chip) (read : Bool) (u : InUse) where
   all-fit :
       (t : Settings) (a : ℕ) (vs : List ℕ)
       → a < 0x8000 → Sent read vs
-      → (counting c u .single && not read && configuresEarly (runFrom (counting c u .ascending) a vs)) ≡ false
-      → cond (counting c u .single) (inUseOf t) u ≡ u
+      → (counting c u .«single_instruction» && not read && configuresEarly (runFrom (counting c u .ascending) a vs)) ≡ false
+      → cond (counting c u .«single_instruction») (inUseOf t) u ≡ u
       → AllFit c read u t (runFrom (counting c u .ascending) a vs)
   unfolding runFrom configuresEarly
   all-fit t a [] near sent late steady = tt
@@ -85,14 +85,14 @@ module _ (c : Chip) (read : Bool) (u : InUse) where
       let up : Bool = counting c u .ascending in
       let next : ℕ = nextAddress up a in
       let early : Bool = configuresEarly (runFrom up next (v' ∷ vs)) in
-      let later = late-on (counting c u .single) read (isConfiguration p) early late in
+      let later = late-on (counting c u .«single_instruction») read (isConfiguration p) early late in
       let steady' = steady-on c read u t p early late steady in (
         record { near = near; small = sent .0; zeros = sent .1; steady = steady },
         all-fit (settingsOn c t (wholeOf read p)) next (v' ∷ vs) (next-lt up a) (sent .2) later steady',
       )
 
 pub order-fits :
-    (c : Chip) (m : List ℕ) (w : World) (o : Order) (room : ℕ) → AtRest c m w o → Accepted c o room
+    (c : Chip) (m : List ℕ) (w : ReaderState) (o : Order) (room : ℕ) → AtRest c m w o → Accepted c o room
     → AllFit c (isRead o) (inUseOf (w .session .port .settings)) (w .session .port .settings) (runFrom (countingOf c w .ascending) (o .start) (sentBytes o))
 order-fits c m w o room rest accepted =
     let t : Settings = w .session .port .settings in
@@ -100,4 +100,4 @@ order-fits c m w o room rest accepted =
     all-fit c (isRead o) (inUseOf t) t (o .start) (sentBytes o) (omega (arith, sound .start))
     (sent-bytes (isRead o) (o .count) (o .bytes) (accepted .data-bytes))
     (rw (rest .same-single, rest .same-direction) at (sound .not-early))
-    (each (λ (u : InUse). u ≡ inUseOf t) (countingOf c w .single) (λ e. refl) (λ e. refl))
+    (each (λ (u : InUse). u ≡ inUseOf t) (countingOf c w .«single_instruction») (λ e. refl) (λ e. refl))

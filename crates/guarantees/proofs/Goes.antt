@@ -8,22 +8,22 @@ use native.Mathlib.Omega.{arith}
 use lib.Dec.{eqb, leb}
 use lib.ListN.{length}
 use borrow.Author.Tests.{ne-eqb, le-leb, leb-true, eqb-true}
-use Rattle.bits.proofs.Cases.{each}
-use Rattle.chip.specs.declared.Part.{Part}
-use Rattle.chip.specs.declared.Chip.{Chip}
-use Rattle.chip.specs.declared.Chip.the-variants.{Newer, Older}
-use Rattle.settings.specs.declared.Settings.{Settings}
-use Rattle.settings.specs.declared.InUse.{InUse}
-use Rattle.settings.specs.Settings.{counting, nextAddress}
-use Rattle.session.specs.declared.Port.{Port}
-use Rattle.session.specs.declared.Event.the-variants.{Whole}
-use Rattle.session.specs.State.{inData, isCounted, soundPort}
-use Rattle.session.specs.Step.{runsOut, stepOf}
-use Rattle.session.proofs.Form.{Form, rests, instructs, has-data, stalls, passes, leftAfter, sound-form}
-use Rattle.order.specs.Order.{runFrom}
-use Rattle.order.specs.Samples.{lengthBits, runBits, clocked}
-use Rattle.order.specs.Number.{upTo}
-use Rattle.order.proofs.Addresses.{stays-on}
+use Rattle.base_bits.proofs.Cases.{each}
+use Rattle.base_chip.specs.declared.Part.{Part}
+use Rattle.base_chip.specs.declared.Chip.{Chip}
+use Rattle.base_chip.specs.declared.Chip.the-variants.{Newer, Older}
+use Rattle.bus_settings.specs.declared.Settings.{Settings}
+use Rattle.bus_settings.specs.declared.InUse.{InUse}
+use Rattle.bus_settings.specs.Settings.{counting, nextAddress}
+use Rattle.bus_session.specs.declared.Port.{Port}
+use Rattle.bus_session.specs.declared.Event.the-variants.{Whole}
+use Rattle.bus_session.specs.State.{inData, isCounted, soundPort}
+use Rattle.bus_session.specs.Step.{runsOut, stepOf}
+use Rattle.bus_session.proofs.Form.{Form, rests, instructs, has-data, stalls, passes, leftAfter, sound-form}
+use Rattle.send_order.specs.Order.{runFrom}
+use Rattle.send_order.specs.Samples.{lengthBits, runBits, clocked}
+use Rattle.send_order.specs.Number.{upTo}
+use Rattle.send_order.proofs.Addresses.{stays-on}
 use Rattle.guarantees.proofs.Events.{settingsOn}
 use Rattle.guarantees.proofs.Pieces.{afterWhole}
 use Rattle.guarantees.proofs.Runs.{AllFit, Goes, goes-on, byte-first}
@@ -56,13 +56,13 @@ more-left k (exactly h) =
     (ne-eqb (suc (suc k)) 1 (λ (z : suc (suc k) ≡ 1). omega arith), rw counted (subst (Remaining (suc k)) less (exactly (omega arith))))
 
 pub older-goes : (part : Part) (top : ℕ) (u : InUse) (vs : List ℕ) (left a : ℕ) → top < 0x7FFF → Remaining (length vs) left
-    → upTo top (runFrom (u .lsb) a vs) ≡ true → Goes (Older part top) u left a vs
+    → upTo top (runFrom (u .«lsb_first») a vs) ≡ true → Goes (Older part top) u left a vs
 older-goes part top u [] left a low r h = tt
 older-goes part top u (v ∷ []) left a low r h = tt
 older-goes part top u (v ∷ w ∷ ws) left a low r h =
     let m = more-left (length ws) r in
-    let on = stays-on top (u .lsb) a v w ws low h in
-    (rw (m .0, on .not-at-end), older-goes part top u (w ∷ ws) (leftAfter left) (nextAddress (u .lsb) a) low (m .1) (on .onward))
+    let on = stays-on top (u .«lsb_first») a v w ws low h in
+    (rw (m .0, on .not-at-end), older-goes part top u (w ∷ ws) (leftAfter left) (nextAddress (u .«lsb_first») a) low (m .1) (on .onward))
 
 -- ---- what is left at the end
 
@@ -81,12 +81,12 @@ module _ (part : Part) (top : ℕ) (read : Bool) (u : InUse) where
   -- after the last byte a counted run is out, and one that streams goes on or is passed over
   last-left : (t : Settings) (a v : ℕ) {left : ℕ} → Remaining 1 left → isCounted (afterWhole (Older part top) read t u a left v .left) ≡ false
   last-left t a v streaming =
-      each (λ (s : Port). isCounted (s .left) ≡ false) (runsOut (Older part top) 4 a (u .lsb)) (λ e. refl) (λ e. refl)
+      each (λ (s : Port). isCounted (s .left) ≡ false) (runsOut (Older part top) 4 a (u .«lsb_first»)) (λ e. refl) (λ e. refl)
   last-left t a v (exactly h) = refl
 
-  pub older-left : (vs : List ℕ) (v : ℕ) (t : Settings) (a left : ℕ) (sclk : Bool) → AllFit (Older part top) read u t (runFrom (u .lsb) a (v ∷ vs))
+  pub older-left : (vs : List ℕ) (v : ℕ) (t : Settings) (a left : ℕ) (sclk : Bool) → AllFit (Older part top) read u t (runFrom (u .«lsb_first») a (v ∷ vs))
       → Goes (Older part top) u left a (v ∷ vs) → Remaining (length (v ∷ vs)) left
-      → isCounted (foldl (stepOf (Older part top)) (inData sclk 0 0 a read left t u) (clocked (runBits false read (u .lsb) (runFrom (u .lsb) a (v ∷ vs)))) .left)
+      → isCounted (foldl (stepOf (Older part top)) (inData sclk 0 0 a read left t u) (clocked (runBits false read (u .«lsb_first») (runFrom (u .«lsb_first») a (v ∷ vs)))) .left)
       ≡ false
   unfolding runFrom runBits clocked
   older-left [] v t a left sclk fit goes r =
@@ -94,7 +94,7 @@ module _ (part : Part) (top : ℕ) (read : Bool) (u : InUse) where
   older-left (w ∷ ws) v t a left sclk fit goes r =
       ap (λ (s : Port). isCounted (s .left))
       (byte-first (Older part top) read u (w ∷ ws) v t a left sclk (fit .0) (λ e. absurd (false≢true e))
-      ∙ ap (λ (s : Port). foldl (stepOf (Older part top)) s (clocked (runBits false read (u .lsb) (runFrom (u .lsb) (nextAddress (u .lsb) a) (w ∷ ws)))))
+      ∙ ap (λ (s : Port). foldl (stepOf (Older part top)) s (clocked (runBits false read (u .«lsb_first») (runFrom (u .«lsb_first») (nextAddress (u .«lsb_first») a) (w ∷ ws)))))
       (goes-on (Older part top) read u t a left v (goes .0)))
-      ∙ older-left ws w (settingsOn (Older part top) t (Whole read a v)) (nextAddress (u .lsb) a) (leftAfter left) true (fit .1) (goes .1)
+      ∙ older-left ws w (settingsOn (Older part top) t (Whole read a v)) (nextAddress (u .«lsb_first») a) (leftAfter left) true (fit .1) (goes .1)
       (more-left (length ws) r .1)

@@ -5,12 +5,12 @@ use mathlib.Core.Bool.{false}
 use mathlib.Core.List.{List}
 use Prim.Native.Nat.{ℕ}
 use lib.ListN.{take}
-use Rattle.bits.proofs.Cases.{and-right}
-use Rattle.chip.specs.declared.Chip.{Chip}
-use Rattle.registers.specs.Banks.{transferred}
-use Rattle.writing.specs.Rise.{movesAtRise, riseBanks}
-use Rattle.run.specs.Reading.{World}
-use Rattle.order.specs.Order.{Order, RunByte, runBytes}
+use Rattle.base_bits.proofs.Cases.{and-right}
+use Rattle.base_chip.specs.declared.Chip.{Chip}
+use Rattle.reg_banks.specs.Banks.{transferred}
+use Rattle.reg_write.specs.Rise.{movesAtRise, riseBanks}
+use Rattle.read_run.specs.Reading.{ReaderState}
+use Rattle.send_order.specs.Order.{Order, RunByte, runBytes}
 use Rattle.guarantees.specs.Book.{wholeRun, writeAll, armedAll, bookOf}
 use Rattle.guarantees.specs.Calls.{Call, afterCalls}
 use Rattle.guarantees.specs.StoppedRun.{Run}
@@ -21,7 +21,7 @@ use Rattle.guarantees.proofs.Buffered.{inForce, transferred-at, mapped-
 
 -- where the raise moves nothing, and before it, both stages are those of the whole bytes
 unmoved :
-    (c : Chip) (m : List ℕ) (w : World) (o : Order) (room s raise : ℕ) (calls : List Call) → Run c m w o room raise → Unmoved c m w o s raise calls
+    (c : Chip) (m : List ℕ) (w : ReaderState) (o : Order) (room s raise : ℕ) (calls : List Call) → Run c m w o room raise → Unmoved c m w o s raise calls
     → anyReset c (wholeRun c o s) ≡ false
     → afterCalls c m w calls .banks ≡ writeAll c m (wholeRun c o s) (w .banks)
 unfolding bookOf riseBanks

@@ -5,31 +5,31 @@ use mathlib.Core.List.{List}
 use Prim.Native.Nat.{ℕ, _+_, _-_, _*_}
 use native.Mathlib.Omega.{arith}
 use lib.ListN.{length}
-use Rattle.bits.specs.Bits.{bitAt, merged}
-use Rattle.bits.specs.Tests.{every}
-use Rattle.card.specs.Card.{turned, isMirror}
-use Rattle.regmap.specs.Format.{lengthOf, versionOf, countOf, headSizeIn, headOf, entryAt}
-use Rattle.regmap.proofs.Laws.{head-size-bounds}
-use Rattle.maptest.specs.MapTest.{kindRule, placeRule, entryGood, entriesGood, mapNumber}
-use Rattle.maptest.proofs.Laws.{good-length, good-form}
-use Rattle.chip.specs.declared.Chip.the-variants.{Newer}
-use Rattle.settings.specs.Settings.{newerAfter, newerReading}
-use Rattle.session.specs.Step.{entered, withInstructionBit, withDataBit, stepOf}
-use Rattle.session.specs.State.{soundPort, soundSession}
-use Rattle.session.specs.Event.{bitEvent, endEvent, eventOf}
-use Rattle.registers.specs.Banks.{defaultsFrom, defaultBanks, transferFrom, transferred}
-use Rattle.registers.specs.Read.{dueByte}
-use Rattle.writing.specs.Effect.{controlEffect, effectOf}
-use Rattle.writing.specs.Write.{applied, writeBanks, writtenBy}
-use Rattle.writing.specs.Rise.{armedBy, riseBanks}
-use Rattle.records.specs.Records.{recordOf}
-use Rattle.records.specs.BanksAfter.{banksAfter, armedAfter, touchedAfter}
-use Rattle.run.specs.Reading.{runOf, recordsOf}
-use Rattle.refusals.specs.Numbers.{samplesGood, readNumber}
-use Rattle.order.specs.Order.{runFrom}
-use Rattle.order.specs.Number.{configuresEarly, sendNumber}
-use Rattle.order.specs.Samples.{highFirst, lowFirst, bitsOf, byteBits, runBits, orderBits, clocked, samplesOf, allSamples}
-use Rattle.order.proofs.Laws.{length-samples}
+use Rattle.base_bits.specs.Bits.{bitAt, merged}
+use Rattle.base_bits.specs.Tests.{every}
+use Rattle.base_card.specs.Card.{turned, isMirror}
+use Rattle.map_format.specs.Format.{lengthOf, versionOf, countOf, headSizeIn, headOf, entryAt}
+use Rattle.map_format.proofs.Laws.{head-size-bounds}
+use Rattle.map_test.specs.MapTest.{kindRule, placeRule, entryGood, entriesGood, mapNumber}
+use Rattle.map_test.proofs.Laws.{good-length, good-form}
+use Rattle.base_chip.specs.declared.Chip.the-variants.{Newer}
+use Rattle.bus_settings.specs.Settings.{newerAfter, newerReading}
+use Rattle.bus_session.specs.Step.{entered, withInstructionBit, withDataBit, stepOf}
+use Rattle.bus_session.specs.State.{soundPort, soundSession}
+use Rattle.bus_session.specs.Event.{bitEvent, endEvent, eventOf}
+use Rattle.reg_banks.specs.Banks.{defaultsFrom, defaultBanks, transferFrom, transferred}
+use Rattle.reg_banks.specs.Read.{dueByte}
+use Rattle.reg_write.specs.Effect.{controlEffect, effectOf}
+use Rattle.reg_write.specs.Write.{applied, writeBanks, writtenBy}
+use Rattle.reg_write.specs.Rise.{armedBy, riseBanks}
+use Rattle.read_records.specs.Records.{recordOf}
+use Rattle.read_records.specs.BanksAfter.{banksAfter, armedAfter, touchedAfter}
+use Rattle.read_run.specs.Reading.{runOf, recordsOf}
+use Rattle.read_refusals.specs.Numbers.{samplesGood, readNumber}
+use Rattle.send_order.specs.Order.{runFrom}
+use Rattle.send_order.specs.Number.{configuresEarly, sendNumber}
+use Rattle.send_order.specs.Samples.{highFirst, lowFirst, bitsOf, byteBits, runBits, orderBits, clocked, samplesOf, allSamples}
+use Rattle.send_order.proofs.Laws.{length-samples}
 use Rattle.guarantees.specs.Known.{KnownResults, writeThousand}
 use Rattle.guarantees.proofs.Blank.{good-8192}
 

@@ -1,23 +1,23 @@
 -- The older chips' worked examples: they compute.
 use mathlib.Core.Path.{refl}
-use Rattle.bits.specs.Bits.{bitAt, merged}
-use Rattle.bits.specs.Tests.{every}
-use Rattle.regmap.specs.Format.{countOf, headOf, entryAt}
-use Rattle.maptest.specs.MapTest.{kindRule, placeRule, entryGood, entriesGood, mapNumber, mapTestNumber}
-use Rattle.settings.specs.Settings.{olderAfter, olderReading}
-use Rattle.session.specs.Step.{entered, withInstructionBit, withDataBit, stepOf}
-use Rattle.session.specs.Event.{bitEvent, endEvent, eventOf}
-use Rattle.registers.specs.Banks.{defaultsFrom, defaultBanks, transferFrom, transferred}
-use Rattle.registers.specs.Read.{dueByte}
-use Rattle.writing.specs.Effect.{controlEffect, effectOf}
-use Rattle.writing.specs.Write.{applied, writeBanks, writtenBy}
-use Rattle.writing.specs.Rise.{armedBy, riseBanks}
-use Rattle.records.specs.Records.{recordOf}
-use Rattle.records.specs.BanksAfter.{banksAfter, armedAfter, touchedAfter}
-use Rattle.run.specs.Reading.{runOf, recordsOf}
-use Rattle.order.specs.Order.{runFrom}
-use Rattle.order.specs.Number.{configuresEarly, upTo, sendNumber}
-use Rattle.order.specs.Samples.{highFirst, lowFirst, bitsOf, byteBits, runBits, orderBits, clocked, samplesOf}
+use Rattle.base_bits.specs.Bits.{bitAt, merged}
+use Rattle.base_bits.specs.Tests.{every}
+use Rattle.map_format.specs.Format.{countOf, headOf, entryAt}
+use Rattle.map_test.specs.MapTest.{kindRule, placeRule, entryGood, entriesGood, mapNumber, mapTestNumber}
+use Rattle.bus_settings.specs.Settings.{olderAfter, olderReading}
+use Rattle.bus_session.specs.Step.{entered, withInstructionBit, withDataBit, stepOf}
+use Rattle.bus_session.specs.Event.{bitEvent, endEvent, eventOf}
+use Rattle.reg_banks.specs.Banks.{defaultsFrom, defaultBanks, transferFrom, transferred}
+use Rattle.reg_banks.specs.Read.{dueByte}
+use Rattle.reg_write.specs.Effect.{controlEffect, effectOf}
+use Rattle.reg_write.specs.Write.{applied, writeBanks, writtenBy}
+use Rattle.reg_write.specs.Rise.{armedBy, riseBanks}
+use Rattle.read_records.specs.Records.{recordOf}
+use Rattle.read_records.specs.BanksAfter.{banksAfter, armedAfter, touchedAfter}
+use Rattle.read_run.specs.Reading.{runOf, recordsOf}
+use Rattle.send_order.specs.Order.{runFrom}
+use Rattle.send_order.specs.Number.{configuresEarly, upTo, sendNumber}
+use Rattle.send_order.specs.Samples.{highFirst, lowFirst, bitsOf, byteBits, runBits, orderBits, clocked, samplesOf}
 use Rattle.guarantees.specs.KnownOlder.{OlderResults}
 
 pub older-results : OlderResults

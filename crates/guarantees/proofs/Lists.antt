@@ -6,13 +6,13 @@ use mathlib.Core.List.{List, [], _∷_, _++_, append-nil}
 use native.Mathlib.Omega.{arith}
 use lib.ListN.{length, take, drop, replicate, length-append, length-take, length-replicate, take-append-drop}
 use borrow.Author.Tests.{le-leb}
-use Rattle.sizes.specs.Sizes.{recordSize}
-use Rattle.chip.specs.declared.Chip.{Chip}
-use Rattle.run.specs.Reading.{World, recordCount}
-use Rattle.refusals.specs.Numbers.{samplesGood, readNumber}
-use Rattle.reader.specs.Calls.{readOf}
-use Rattle.order.specs.Order.{Order}
-use Rattle.order.specs.Samples.{samplesOf}
+use Rattle.base_sizes.specs.Sizes.{recordSize}
+use Rattle.base_chip.specs.declared.Chip.{Chip}
+use Rattle.read_run.specs.Reading.{ReaderState, recordCount}
+use Rattle.read_refusals.specs.Numbers.{samplesGood, readNumber}
+use Rattle.read_calls.specs.Calls.{readOf}
+use Rattle.send_order.specs.Order.{Order}
+use Rattle.send_order.specs.Samples.{samplesOf}
 use Rattle.guarantees.specs.AtRest.{AtRest, Accepted}
 use Rattle.guarantees.specs.Calls.{Call, outcomeOf, isDone, afterCalls, joined}
 use Rattle.guarantees.specs.StoppedRun.{stoppedSamples}
@@ -39,7 +39,7 @@ next-done c m w o room s raise calls next rest records run read enough =
     rw (no-refusal c m after next (length records) (run .start .good-map) (run .start .top)
     (rw (calls-run c m w calls) (run-sound c m w (joined c m w calls) (rest-sound c m w o (run .start)))) fine few enough)
   where
-    after : World
+    after : ReaderState
     after = afterCalls c m w calls
 
     fine : samplesGood next ≡ true
@@ -61,7 +61,7 @@ next-done c m w o room s raise calls next rest records run read enough =
 abbrev badCall : Call
 badCall = record { samples = 0x10 ∷ []; records = [] }
 
-bad-refused : (c : Chip) (m : List ℕ) (w : World) (o : Order) → AtRest c m w o → isDone c m w badCall ≡ false
+bad-refused : (c : Chip) (m : List ℕ) (w : ReaderState) (o : Order) → AtRest c m w o → isDone c m w badCall ≡ false
 unfolding readOf readNumber samplesGood
 bad-refused c m w o rest = rw (rest .sound, rest .good-map, rest .bank-sizes, rest .top, rest .words)
 
@@ -77,8 +77,8 @@ lists-exist c m w o room s raise run = record {
     samples : List ℕ
     samples = stoppedSamples c o s raise
 
-    after : World
-    after = outcomeOf c m w badCall .world
+    after : ReaderState
+    after = outcomeOf c m w badCall .state
 
     size : ℕ
     size = recordSize * recordCount c (after .session .port) samples

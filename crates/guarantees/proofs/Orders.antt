@@ -10,25 +10,25 @@ use lib.Dec.{ltb}
 use lib.ListN.{length, length-append, take}
 use lib.Seq.{take-nil, take-append-le}
 use borrow.Author.Tests.{ltb-true}
-use Rattle.bits.specs.Bits.{bitAt}
-use Rattle.bits.proofs.Cases.{each}
-use Rattle.chip.specs.Chip.{topGood}
-use Rattle.chip.specs.declared.Chip.{Chip}
-use Rattle.chip.specs.declared.Chip.the-variants.{Newer, Older}
-use Rattle.settings.specs.declared.Settings.{Settings}
-use Rattle.settings.specs.declared.InUse.{InUse}
-use Rattle.settings.specs.Settings.{inUseOf, counting}
-use Rattle.session.specs.declared.Port.{Port}
-use Rattle.session.specs.declared.Event.{Event}
-use Rattle.session.specs.State.{resting, starting, inData}
-use Rattle.session.specs.Step.{stepOf}
-use Rattle.session.specs.Event.{eventOf}
-use Rattle.session.proofs.Form.{rest-form}
-use Rattle.session.proofs.Laws.{port-sound}
-use Rattle.run.specs.Reading.{World}
-use Rattle.order.specs.Order.{Order, RunByte, isRead, isSingle, runFrom, sentBytes, runBytes}
-use Rattle.order.specs.Samples.{bitsOf, instructionOf, lengthAndAddress, runBits, orderBits, clocked, samplesOf}
-use Rattle.order.proofs.Laws.{length-sent, top-low, older-start, admitted}
+use Rattle.base_bits.specs.Bits.{bitAt}
+use Rattle.base_bits.proofs.Cases.{each}
+use Rattle.base_chip.specs.Chip.{topGood}
+use Rattle.base_chip.specs.declared.Chip.{Chip}
+use Rattle.base_chip.specs.declared.Chip.the-variants.{Newer, Older}
+use Rattle.bus_settings.specs.declared.Settings.{Settings}
+use Rattle.bus_settings.specs.declared.InUse.{InUse}
+use Rattle.bus_settings.specs.Settings.{inUseOf, counting}
+use Rattle.bus_session.specs.declared.Port.{Port}
+use Rattle.bus_session.specs.declared.Event.{Event}
+use Rattle.bus_session.specs.State.{resting, starting, inData}
+use Rattle.bus_session.specs.Step.{stepOf}
+use Rattle.bus_session.specs.Event.{eventOf}
+use Rattle.bus_session.proofs.Form.{rest-form}
+use Rattle.bus_session.proofs.Laws.{port-sound}
+use Rattle.read_run.specs.Reading.{ReaderState}
+use Rattle.send_order.specs.Order.{Order, RunByte, isRead, isSingle, runFrom, sentBytes, runBytes}
+use Rattle.send_order.specs.Samples.{bitsOf, instructionOf, lengthAndAddress, runBits, orderBits, clocked, samplesOf}
+use Rattle.send_order.proofs.Laws.{length-sent, top-low, older-start, admitted}
 use Rattle.guarantees.specs.AtRest.{countingOf, AtRest, Accepted}
 use Rattle.guarantees.specs.Book.{wholeBytes}
 use Rattle.guarantees.proofs.Events.{eventsOf}
@@ -53,7 +53,7 @@ pub record Ready (c : Chip) (t : Settings) (k a : ℕ) (vs : List ℕ) : Type 0 
   pub goes : Goes c (inUseOf t) (leftOf c k) a vs
 
 -- with single instruction there is nothing left: it is a newer chip's
-pub single-leaves : (c : Chip) (u : InUse) (k : ℕ) → counting c u .single ≡ true → leftOf c k ≡ 0
+pub single-leaves : (c : Chip) (u : InUse) (k : ℕ) → counting c u .«single_instruction» ≡ true → leftOf c k ≡ 0
 single-leaves Newer u k e = refl
 single-leaves (Older part top) u k e = absurd (false≢true e)
 
@@ -62,18 +62,18 @@ from-start :
     (c : Chip) (read : Bool) (t : Settings) (k a j : ℕ) (vs : List ℕ) → Ready c t k a vs
     → AllFit c read (inUseOf t) t (runFrom (counting c (inUseOf t) .ascending) a vs)
     → eventsOf c (starting false t)
-    (take j (clocked (bitsFrom (counting c (inUseOf t) .single) read (t .lsb) (lengthAndAddress c k a) (runFrom (counting c (inUseOf t) .ascending) a vs)) ++ ending))
-    ≡ map (wholeOf read) (take (wholeIn (counting c (inUseOf t) .single) j) (runFrom (counting c (inUseOf t) .ascending) a vs))
+    (take j (clocked (bitsFrom (counting c (inUseOf t) .«single_instruction») read (t .«lsb_first») (lengthAndAddress c k a) (runFrom (counting c (inUseOf t) .ascending) a vs)) ++ ending))
+    ≡ map (wholeOf read) (take (wholeIn (counting c (inUseOf t) .«single_instruction») j) (runFrom (counting c (inUseOf t) .ascending) a vs))
 from-start c read t k a j [] r fit = absurd (omega (arith, r .some))
 from-start c read t k a j (v ∷ vs) r fit =
-    by-mode (counting c (inUseOf t) .single)
+    by-mode (counting c (inUseOf t) .«single_instruction»)
     (λ i sclk. run-events c read (inUseOf t) vs v t a (leftOf c k) i sclk fit (r .goes) (single-leaves c (inUseOf t) k))
   where
     ps : List RunByte
     ps = runFrom (counting c (inUseOf t) .ascending) a (v ∷ vs)
 
     samples : Bool → List ℕ
-    samples single = clocked (runBits single read (t .lsb) ps) ++ ending
+    samples single = clocked (runBits single read (t .«lsb_first») ps) ++ ending
 
     entered : Port
     entered = inData true 0 0 a read (leftOf c k) t (inUseOf t)
@@ -93,12 +93,12 @@ from-start c read t k a j (v ∷ vs) r fit =
         → ((i : ℕ) (sclk : Bool)
         → eventsOf c (cond single (starting sclk t) (inData sclk 0 0 a read (leftOf c k) t (inUseOf t))) (take i (samples single))
         ≡ map (wholeOf read) (take (i / period single) ps))
-        → eventsOf c (starting false t) (take j (clocked (bitsFrom single read (t .lsb) (lengthAndAddress c k a) ps) ++ ending))
+        → eventsOf c (starting false t) (take j (clocked (bitsFrom single read (t .«lsb_first») (lengthAndAddress c k a) ps) ++ ending))
         ≡ map (wholeOf read) (take (wholeIn single j) ps)
     by-mode true bytes = bytes j false
     by-mode false bytes =
         ap (λ (l : List ℕ). eventsOf c (starting false t) (take j l))
-        (clocked-then (bitsOf (t .lsb) 16 (instructionOf read (lengthAndAddress c k a))) (runBits false read (t .lsb) ps) ending)
+        (clocked-then (bitsOf (t .«lsb_first») 16 (instructionOf read (lengthAndAddress c k a))) (runBits false read (t .«lsb_first») ps) ending)
         ∙ stopped-instruction c k read t (inUseOf t) a (r .top) (r .start) j false (samples false)
         ∙ by-size (ltb j 32) refl (bytes (j - 32) true)
 
@@ -117,7 +117,7 @@ take-min {A} (suc n) (x ∷ l) =
     ap (λ (k : ℕ). take k (x ∷ l)) (suc-min-suc (length l) n) ∙ ap {B = List A} (λ (r : List A). x ∷ r) (take-min n l)
 
 -- an accepted order finds all that
-pub order-ready : (c : Chip) (m : List ℕ) (w : World) (o : Order) (room : ℕ) → AtRest c m w o → Accepted c o room
+pub order-ready : (c : Chip) (m : List ℕ) (w : ReaderState) (o : Order) (room : ℕ) → AtRest c m w o → Accepted c o room
     → Ready c (w .session .port .settings) (o .count) (o .start) (sentBytes o)
 order-ready Newer m w o room rest accepted =
     let a = admitted Newer o room (accepted .number) in
@@ -153,11 +153,11 @@ take-unraised c o s h =
     ∙ take-append-le s (unraised c o) (0x01 ∷ []) (omega (arith, ap length (raised-last c o), length-append (unraised c o) (0x01 ∷ [])))
 
 -- the port of a session at rest
-pub rest-port : (c : Chip) (m : List ℕ) (w : World) (o : Order) → AtRest c m w o → w .session .port ≡ resting (w .session .port .sclk) (w .session .port .settings)
+pub rest-port : (c : Chip) (m : List ℕ) (w : ReaderState) (o : Order) → AtRest c m w o → w .session .port ≡ resting (w .session .port .sclk) (w .session .port .settings)
 rest-port c m w o rest = rest-form c (w .session .port) (port-sound c (w .session) (rest .sound)) (rest .at-rest) (rest .deselected)
 
 pub order-events :
-    (c : Chip) (m : List ℕ) (w : World) (o : Order) (room : ℕ) → AtRest c m w o → Accepted c o room → (s : ℕ)
+    (c : Chip) (m : List ℕ) (w : ReaderState) (o : Order) (room : ℕ) → AtRest c m w o → Accepted c o room → (s : ℕ)
     → eventsOf c (w .session .port) (take s (unraised c o)) ≡ map (wholeOf (isRead o)) (take (wholeBytes c o s) (runBytes c o))
 unfolding orderBits wholeBytes eventsOf
 order-events c m w o room rest accepted s =

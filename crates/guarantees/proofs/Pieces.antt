@@ -9,22 +9,22 @@ use lib.Dec.{ltb, leb}
 use lib.ListN.{length, take}
 use lib.Seq.{take-nil, take-append-le, take-append-add}
 use borrow.Author.Tests.{lt-ltb, le-ltb, lt-leb, le-leb}
-use Rattle.bits.specs.Bits.{bitAt, bitOf, shiftedIn}
-use Rattle.chip.specs.declared.Chip.{Chip}
-use Rattle.chip.specs.declared.Chip.the-variants.{Newer, Older}
-use Rattle.settings.specs.declared.Settings.{Settings}
-use Rattle.settings.specs.declared.InUse.{InUse}
-use Rattle.settings.specs.Settings.{counting}
-use Rattle.session.specs.declared.Phase.{Phase}
-use Rattle.session.specs.declared.Phase.the-variants.{Instruction, Data}
-use Rattle.session.specs.declared.Port.{Port}
-use Rattle.session.specs.declared.Event.{Event}
-use Rattle.session.specs.declared.Event.the-variants.{Nothing, Whole}
-use Rattle.session.specs.State.{withPhase, resting, passing, instructing, inData, isCounted}
-use Rattle.session.specs.Step.{sdioOf, sdoOf, entered, afterByte, withInstructionBit, withDataBit, withBit, stepOf}
-use Rattle.session.specs.Event.{bitEvent, eventOf}
-use Rattle.order.specs.Samples.{highFirst, lowFirst, bitsOf, instructionOf, lengthBits, lengthAndAddress, clocked}
-use Rattle.order.proofs.Laws.{length-bits, length-clocked, length-bits-few}
+use Rattle.base_bits.specs.Bits.{bitAt, bitOf, shiftedIn}
+use Rattle.base_chip.specs.declared.Chip.{Chip}
+use Rattle.base_chip.specs.declared.Chip.the-variants.{Newer, Older}
+use Rattle.bus_settings.specs.declared.Settings.{Settings}
+use Rattle.bus_settings.specs.declared.InUse.{InUse}
+use Rattle.bus_settings.specs.Settings.{counting}
+use Rattle.bus_session.specs.declared.Phase.{Phase}
+use Rattle.bus_session.specs.declared.Phase.the-variants.{Instruction, Data}
+use Rattle.bus_session.specs.declared.Port.{Port}
+use Rattle.bus_session.specs.declared.Event.{Event}
+use Rattle.bus_session.specs.declared.Event.the-variants.{Nothing, Whole}
+use Rattle.bus_session.specs.State.{withPhase, resting, passing, instructing, inData, isCounted}
+use Rattle.bus_session.specs.Step.{sdioOf, sdoOf, entered, afterByte, withInstructionBit, withDataBit, withBit, stepOf}
+use Rattle.bus_session.specs.Event.{bitEvent, eventOf}
+use Rattle.send_order.specs.Samples.{highFirst, lowFirst, bitsOf, instructionOf, lengthBits, lengthAndAddress, clocked}
+use Rattle.send_order.proofs.Laws.{length-bits, length-clocked, length-bits-few}
 use Rattle.guarantees.proofs.BitsBack.{takenIn, bits-back}
 use Rattle.guarantees.proofs.Events.{noted, eventsOf, settingsOn}
 
@@ -173,7 +173,7 @@ does-as d p q = record { step = d .step ∙ p; event = d .event ∙ q }
 -- ---- an instruction
 
 instruction-piece : (c : Chip) (t : Settings) (u : InUse)
-    → Piece c 16 (u .lsb) (λ b. b) (λ sclk n v. instructing sclk n v t u) (λ x. entered c x t u) (λ x. Nothing)
+    → Piece c 16 (u .«lsb_first») (λ b. b) (λ sclk n v. instructing sclk n v t u) (λ x. entered c x t u) (λ x. Nothing)
 unfolding bitEvent withInstructionBit
 instruction-piece c t u = record {
   half = λ sclk b n v. clock-low c Instruction n v 0 false 0 t u sclk b;
@@ -233,14 +233,14 @@ instruction-lt (Older part top) k false a f h = omega (arith, length-bits-few k)
 module _ (c : Chip) (k : ℕ) (read : Bool) (t : Settings) (u : InUse) (a : ℕ) (f : TopFits c) (h : a ≤ highest c) where
   -- an instruction and what comes after it, stopped after j samples
   pub stopped-instruction : (j : ℕ) (sclk : Bool) (more : List ℕ)
-      → eventsOf c (instructing sclk 0 0 t u) (take j (clocked (bitsOf (u .lsb) 16 (instructionOf read (lengthAndAddress c k a))) ++ more))
+      → eventsOf c (instructing sclk 0 0 t u) (take j (clocked (bitsOf (u .«lsb_first») 16 (instructionOf read (lengthAndAddress c k a))) ++ more))
       ≡ cond (ltb j 32) [] (eventsOf c (inData true 0 0 a read (leftOf c k) t u) (take (j - 32) more))
   stopped-instruction j sclk more =
       stopped (instruction-piece c t u) (instructionOf read (lengthAndAddress c k a)) (omega arith) (instruction-lt c k read a f h) (map-id _) j sclk more
       ∙ ap (λ (s : Port). cond (ltb j 32) [] (eventsOf c s (take (j - 32) more))) (entered-instruction c k read a t u f h)
 
   pub stepped-instruction : (sclk : Bool)
-      → foldl (stepOf c) (instructing sclk 0 0 t u) (clocked (bitsOf (u .lsb) 16 (instructionOf read (lengthAndAddress c k a))))
+      → foldl (stepOf c) (instructing sclk 0 0 t u) (clocked (bitsOf (u .«lsb_first») 16 (instructionOf read (lengthAndAddress c k a))))
       ≡ inData true 0 0 a read (leftOf c k) t u
   stepped-instruction sclk =
       stepped (instruction-piece c t u) (instructionOf read (lengthAndAddress c k a)) (omega arith) (instruction-lt c k read a f h) (map-id _) sclk
@@ -250,7 +250,7 @@ module _ (c : Chip) (k : ℕ) (read : Bool) (t : Settings) (u : InUse) (a : ℕ)
 
 -- what the reader sees of a data bit that is sent: in a read with SDO active it looks at SDO
 abbrev seen : Chip → Bool → InUse → Bool → Bool
-seen c read u b = cond (read && counting c u .sdo) false b
+seen c read u b = cond (read && counting c u .«sdo_active») false b
 
 -- the reader sees what is sent: a read sends zeros, and SDO is low too
 zeros-seen : (lsb sdo : Bool) → map (λ b. cond sdo false b) (bitsOf lsb 8 0) ≡ bitsOf lsb 8 0
@@ -261,7 +261,7 @@ zeros-seen false true = refl
 zeros-seen false false = refl
 
 bits-seen : (c : Chip) (read lsb : Bool) (u : InUse) (v : ℕ) → cond read v 0 ≡ 0 → map (seen c read u) (bitsOf lsb 8 v) ≡ bitsOf lsb 8 v
-bits-seen c true lsb u v e = rw e (zeros-seen lsb (counting c u .sdo))
+bits-seen c true lsb u v e = rw e (zeros-seen lsb (counting c u .«sdo_active»))
 bits-seen c false lsb u v e = map-id (bitsOf lsb 8 v)
 
 -- the session after a whole byte
@@ -269,7 +269,7 @@ abbrev pub afterWhole : Chip → Bool → Settings → InUse → ℕ → ℕ →
 afterWhole c read t u a left v = afterByte c (inData true 7 0 a read left t u) (settingsOn c t (Whole read a v))
 
 data-piece : (c : Chip) (a : ℕ) (read : Bool) (left : ℕ) (t : Settings) (u : InUse)
-    → Piece c 8 (u .lsb) (seen c read u) (λ sclk n v. inData sclk n v a read left t u) (afterWhole c read t u a left) (Whole read a)
+    → Piece c 8 (u .«lsb_first») (seen c read u) (λ sclk n v. inData sclk n v a read left t u) (afterWhole c read t u a left) (Whole read a)
 unfolding bitEvent withDataBit
 data-piece c a read left t u = record {
   half = λ sclk b n v. clock-low c Data n v a read left t u sclk b;
@@ -283,9 +283,9 @@ data-piece c a read left t u = record {
 module _ (c : Chip) (read : Bool) (t : Settings) (u : InUse) (a left v : ℕ) (small : v < 256) (zeros : cond read v 0 ≡ 0) where
   -- a byte and what comes after it, stopped after j samples
   pub stopped-byte : (j : ℕ) (sclk : Bool) (more : List ℕ)
-      → eventsOf c (inData sclk 0 0 a read left t u) (take j (clocked (bitsOf (u .lsb) 8 v) ++ more))
+      → eventsOf c (inData sclk 0 0 a read left t u) (take j (clocked (bitsOf (u .«lsb_first») 8 v) ++ more))
       ≡ cond (ltb j 16) [] (Whole read a v ∷ eventsOf c (afterWhole c read t u a left v) (take (j - 16) more))
-  stopped-byte j sclk more = stopped (data-piece c a read left t u) v (omega arith) small (bits-seen c read (u .lsb) u v zeros) j sclk more
+  stopped-byte j sclk more = stopped (data-piece c a read left t u) v (omega arith) small (bits-seen c read (u .«lsb_first») u v zeros) j sclk more
 
-  pub stepped-byte : (sclk : Bool) → foldl (stepOf c) (inData sclk 0 0 a read left t u) (clocked (bitsOf (u .lsb) 8 v)) ≡ afterWhole c read t u a left v
-  stepped-byte sclk = stepped (data-piece c a read left t u) v (omega arith) small (bits-seen c read (u .lsb) u v zeros) sclk
+  pub stepped-byte : (sclk : Bool) → foldl (stepOf c) (inData sclk 0 0 a read left t u) (clocked (bitsOf (u .«lsb_first») 8 v)) ≡ afterWhole c read t u a left v
+  stepped-byte sclk = stepped (data-piece c a read left t u) v (omega arith) small (bits-seen c read (u .«lsb_first») u v zeros) sclk

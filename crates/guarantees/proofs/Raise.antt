@@ -5,27 +5,27 @@ use mathlib.Core.Bool.{Bool, true, false, not, _||_, true≢false, false≢true,
 use mathlib.Core.List.{List, [], _∷_}
 use lib.Dec.{eqb}
 use borrow.Author.Tests.{eqb-true}
-use Rattle.bits.proofs.Cases.{each, and-left, and-right}
-use Rattle.chip.specs.declared.Chip.{Chip}
-use Rattle.chip.specs.declared.Chip.the-variants.{Newer, Older}
-use Rattle.chip.specs.Chip.{isNewer}
-use Rattle.settings.specs.declared.Settings.{Settings}
-use Rattle.session.specs.declared.Phase.{Phase}
-use Rattle.session.specs.declared.Phase.the-variants.{Rest}
-use Rattle.session.specs.declared.Port.{Port}
-use Rattle.session.specs.declared.Session.{Session}
-use Rattle.session.specs.declared.Event.{Event}
-use Rattle.session.specs.declared.Event.the-variants.{Nothing}
-use Rattle.session.specs.State.{isRest, isCounted, mayArm, soundPort, soundSession}
-use Rattle.session.specs.Step.{csbOf, takesBit, frameEnds}
-use Rattle.session.specs.Event.{endEvent, eventOf}
-use Rattle.session.proofs.Form.{Form, rests, instructs, has-data, stalls, passes, sound-form}
-use Rattle.registers.specs.Banks.{Banks}
-use Rattle.writing.specs.Rise.{riseBanks}
-use Rattle.records.specs.Records.{recordsIn}
-use Rattle.records.specs.BanksAfter.{banksAfter, armedAfter, touchedAfter}
-use Rattle.records.proofs.Arming.{end-event, end-disarms, sound-kept}
-use Rattle.run.specs.Reading.{World, worldAfter, runOf}
+use Rattle.base_bits.proofs.Cases.{each, and-left, and-right}
+use Rattle.base_chip.specs.declared.Chip.{Chip}
+use Rattle.base_chip.specs.declared.Chip.the-variants.{Newer, Older}
+use Rattle.base_chip.specs.Chip.{isNewer}
+use Rattle.bus_settings.specs.declared.Settings.{Settings}
+use Rattle.bus_session.specs.declared.Phase.{Phase}
+use Rattle.bus_session.specs.declared.Phase.the-variants.{Rest}
+use Rattle.bus_session.specs.declared.Port.{Port}
+use Rattle.bus_session.specs.declared.Session.{Session}
+use Rattle.bus_session.specs.declared.Event.{Event}
+use Rattle.bus_session.specs.declared.Event.the-variants.{Nothing}
+use Rattle.bus_session.specs.State.{isRest, isCounted, mayArm, soundPort, soundSession}
+use Rattle.bus_session.specs.Step.{csbOf, takesBit, frameEnds}
+use Rattle.bus_session.specs.Event.{endEvent, eventOf}
+use Rattle.bus_session.proofs.Form.{Form, rests, instructs, has-data, stalls, passes, sound-form}
+use Rattle.reg_banks.specs.Banks.{Banks}
+use Rattle.reg_write.specs.Rise.{riseBanks}
+use Rattle.read_records.specs.Records.{recordsIn}
+use Rattle.read_records.specs.BanksAfter.{banksAfter, armedAfter, touchedAfter}
+use Rattle.read_records.proofs.Arming.{end-event, end-disarms, sound-kept}
+use Rattle.read_run.specs.Reading.{ReaderState, readerStateAfter, runOf}
 use Rattle.guarantees.proofs.Events.{settingsOn}
 
 -- a sound session at rest is not armed
@@ -98,26 +98,26 @@ module _ (raise : ℕ) (raised : csbOf raise ≡ true) where
       by true n = rw (end-event c (s .port) raise n) (end-moves c m (s .armed) b (s .port), end-disarms c m (s .armed) b (s .port))
       by false n = rw (raise-nothing c (s .port) n, disarmed c s h n) (refl, refl)
 
-  pub raise-touches-none : (c : Chip) (m : List ℕ) (w : World) → worldAfter c m w raise .touched ≡ w .touched
+  pub raise-touches-none : (c : Chip) (m : List ℕ) (w : ReaderState) → readerStateAfter c m w raise .touched ≡ w .touched
   unfolding touchedAfter endEvent
   raise-touches-none c m w = raise-event c (w .session .port) Same refl (each Same (eqb (w .session .port .bits) 0) (λ e. refl) (λ e. refl))
     where
       Same : Event → Type 0
       Same e = touchedAfter c m (w .touched) (w .banks) e ≡ w .touched
 
-  module _ (c : Chip) (m : List ℕ) (w : World) (sound : soundSession c (w .session) ≡ true) where
-    pub raise-banks : worldAfter c m w raise .banks ≡ riseBanks c m (w .session .armed) (w .banks)
+  module _ (c : Chip) (m : List ℕ) (w : ReaderState) (sound : soundSession c (w .session) ≡ true) where
+    pub raise-banks : readerStateAfter c m w raise .banks ≡ riseBanks c m (w .session .armed) (w .banks)
     raise-banks = raise-rule c m (w .session) (w .banks) sound .0
 
-    pub raise-disarms : worldAfter c m w raise .session .armed ≡ false
+    pub raise-disarms : readerStateAfter c m w raise .session .armed ≡ false
     raise-disarms = raise-rule c m (w .session) (w .banks) sound .1
 
 -- a second raise changes no bank
-pub raise-twice : (c : Chip) (m : List ℕ) (w : World) (first raise : ℕ) → soundSession c (w .session) ≡ true → csbOf first ≡ true → csbOf raise ≡ true
+pub raise-twice : (c : Chip) (m : List ℕ) (w : ReaderState) (first raise : ℕ) → soundSession c (w .session) ≡ true → csbOf first ≡ true → csbOf raise ≡ true
     → runOf c m w (first ∷ raise ∷ []) .banks ≡ riseBanks c m (w .session .armed) (w .banks)
 unfolding runOf riseBanks
 raise-twice c m w first raise h f r =
-    let v = worldAfter c m w first in
+    let v = readerStateAfter c m w first in
     raise-banks raise r c m v (sound-kept c m (w .session) (w .banks) first h)
     ∙ ap (λ (k : Bool). riseBanks c m k (v .banks)) (raise-disarms first f c m w h)
     ∙ raise-banks first f c m w h

@@ -6,23 +6,23 @@ use mathlib.Core.List.{List, [], _∷_, _++_, append-nil, map, foldl}
 use native.Mathlib.Omega.{arith}
 use lib.ListN.{length, length-append, take}
 use lib.Seq.{take-length}
-use Rattle.bits.specs.Bits.{bitAt}
-use Rattle.bits.specs.Buffer.{filled}
-use Rattle.sizes.specs.Sizes.{recordSize}
-use Rattle.chip.specs.declared.Chip.{Chip}
-use Rattle.settings.specs.declared.Settings.{Settings}
-use Rattle.session.specs.declared.Port.{Port}
-use Rattle.session.specs.State.{resting, soundSession}
-use Rattle.session.specs.Event.{eventOf}
-use Rattle.writing.specs.Rise.{riseBanks}
-use Rattle.records.specs.Records.{recordOf}
-use Rattle.records.specs.BanksAfter.{banksAfter, armedAfter, touchedAfter}
-use Rattle.records.proofs.Laws.{record-size}
-use Rattle.run.specs.Reading.{World, worldAfter, runOf, recordsOf, recordCount}
-use Rattle.refusals.specs.Numbers.{readNumber}
-use Rattle.reader.specs.Calls.{readOf}
-use Rattle.order.specs.Order.{Order, RunByte, isRead, isSingle, runBytes}
-use Rattle.order.specs.Samples.{clocked, orderBits, samplesOf}
+use Rattle.base_bits.specs.Bits.{bitAt}
+use Rattle.base_bits.specs.Buffer.{filled}
+use Rattle.base_sizes.specs.Sizes.{recordSize}
+use Rattle.base_chip.specs.declared.Chip.{Chip}
+use Rattle.bus_settings.specs.declared.Settings.{Settings}
+use Rattle.bus_session.specs.declared.Port.{Port}
+use Rattle.bus_session.specs.State.{resting, soundSession}
+use Rattle.bus_session.specs.Event.{eventOf}
+use Rattle.reg_write.specs.Rise.{riseBanks}
+use Rattle.read_records.specs.Records.{recordOf}
+use Rattle.read_records.specs.BanksAfter.{banksAfter, armedAfter, touchedAfter}
+use Rattle.read_records.proofs.Laws.{record-size}
+use Rattle.read_run.specs.Reading.{ReaderState, readerStateAfter, runOf, recordsOf, recordCount}
+use Rattle.read_refusals.specs.Numbers.{readNumber}
+use Rattle.read_calls.specs.Calls.{readOf}
+use Rattle.send_order.specs.Order.{Order, RunByte, isRead, isSingle, runBytes}
+use Rattle.send_order.specs.Samples.{clocked, orderBits, samplesOf}
 use Rattle.guarantees.specs.AtRest.{AtRest, Accepted}
 use Rattle.guarantees.specs.Book.{wholeBytes, armedAll, touchedAll}
 use Rattle.guarantees.specs.ReadBack.{settingsPast, settingsLeft, banksLeft, banksRaised, touchedLeft, recordsLeft, ReadBack}
@@ -81,7 +81,7 @@ empty : (l : List ℕ) → length l ≡ 0 → l ≡ []
 empty [] e = refl
 empty (x ∷ l) e = absurd (omega (arith, e))
 
-module _ (c : Chip) (m : List ℕ) (w : World) (o : Order) (room : ℕ) (rest : AtRest c m w o) (accepted : Accepted c o room) where
+module _ (c : Chip) (m : List ℕ) (w : ReaderState) (o : Order) (room : ℕ) (rest : AtRest c m w o) (accepted : Accepted c o room) where
   -- the samples but the last
   body-length : length (samplesOf c o) ≡ length (unraised c o) + 1
   body-length = ap length (raised-last c o) ∙ length-append (unraised c o) (0x01 ∷ [])
@@ -99,10 +99,10 @@ module _ (c : Chip) (m : List ℕ) (w : World) (o : Order) (room : ℕ) (rest : 
       ∙ ap (map (wholeOf (isRead o))) (ap (λ (n : ℕ). take n (runBytes c o)) all-whole ∙ take-length (runBytes c o))
 
   -- what is reached before the last sample, and by it
-  abbrev before : World
+  abbrev before : ReaderState
   before = runOf c m w (unraised c o)
 
-  at-end : runOf c m w (samplesOf c o) ≡ worldAfter c m before 0x01
+  at-end : runOf c m w (samplesOf c o) ≡ readerStateAfter c m before 0x01
   unfolding runOf
   at-end = ap (runOf c m w) (raised-last c o) ∙ run-append c m w (unraised c o) (0x01 ∷ [])
 
@@ -112,7 +112,7 @@ module _ (c : Chip) (m : List ℕ) (w : World) (o : Order) (room : ℕ) (rest : 
   settings-end : runOf c m w (samplesOf c o) .session .port .settings ≡ settingsLeft c (isRead o) (w .session .port .settings) (runBytes c o)
   unfolding bitAt
   settings-end =
-      ap (λ (v : World). v .session .port .settings) at-end
+      ap (λ (v : ReaderState). v .session .port .settings) at-end
       ∙ settings-step c (before .session .port) 0x01
       ∙ raise-settings 0x01 refl c (before .session .port) (before .session .port .settings)
       ∙ run-settings c m w (unraised c o)
@@ -126,18 +126,18 @@ module _ (c : Chip) (m : List ℕ) (w : World) (o : Order) (room : ℕ) (rest : 
     where
       rests : runOf c m w (samplesOf c o) .session .port ≡ resting false (runOf c m w (0x00 ∷ clocked (orderBits c o)) .session .port .settings)
       rests =
-          ap (λ (v : World). v .session .port) (run-append c m w (0x00 ∷ clocked (orderBits c o)) (0x00 ∷ 0x01 ∷ []))
+          ap (λ (v : ReaderState). v .session .port) (run-append c m w (0x00 ∷ clocked (orderBits c o)) (0x00 ∷ 0x01 ∷ []))
           ∙ end-rests c (runOf c m w (0x00 ∷ clocked (orderBits c o)) .session .port) (none-left c m w o room rest accepted)
 
   pub session-end : runOf c m w (samplesOf c o) .session
       ≡ record { port = resting false (settingsLeft c (isRead o) (w .session .port .settings) (runBytes c o)); armed = false }
   unfolding bitAt
-  session-end = λ i. record { port = port-end i; armed = (ap (λ (v : World). v .session .armed) at-end ∙ raise-disarms 0x01 refl c m before before-sound) i }
+  session-end = λ i. record { port = port-end i; armed = (ap (λ (v : ReaderState). v .session .armed) at-end ∙ raise-disarms 0x01 refl c m before before-sound) i }
 
   pub banks-end : runOf c m w (samplesOf c o) .banks ≡ banksRaised c m (isRead o) (w .banks) (runBytes c o)
   unfolding bitAt
   banks-end =
-      ap (λ (v : World). v .banks) at-end
+      ap (λ (v : ReaderState). v .banks) at-end
       ∙ raise-banks 0x01 refl c m before before-sound
       ∙ ap (λ (h : Held). riseBanks c m (h .armed) (h .banks))
       (run-held c m w (unraised c o) ∙ ap (foldl (heldOn c m) (heldIn w)) run-whole ∙ held-left c m (isRead o) (heldIn w) (runBytes c o))
@@ -147,7 +147,7 @@ module _ (c : Chip) (m : List ℕ) (w : World) (o : Order) (room : ℕ) (rest : 
   pub touched-end : runOf c m w (samplesOf c o) .touched ≡ touchedLeft c m (isRead o) (w .banks) (w .touched) (runBytes c o)
   unfolding bitAt
   touched-end =
-      ap (λ (v : World). v .touched) at-end
+      ap (λ (v : ReaderState). v .touched) at-end
       ∙ raise-touches-none 0x01 refl c m before
       ∙ ap (λ (h : Held). h .touched)
       (run-held c m w (unraised c o) ∙ ap (foldl (heldOn c m) (heldIn w)) run-whole ∙ held-left c m (isRead o) (heldIn w) (runBytes c o))
@@ -190,7 +190,7 @@ read-back c m o room w records rest accepted enough =
     rw (not-refused c m w o room rest accepted (length records) enough)
     (λ i. record {
       number = 0;
-      world = record {
+      state = record {
         session = session-end c m w o room rest accepted i;
         banks = banks-end c m w o room rest accepted i;
         touched = touched-end c m w o room rest accepted i;

@@ -8,24 +8,24 @@ use native.Mathlib.Nat.{zero-add}
 use lib.Dec.{leb, ltb, eqb}
 use lib.ListN.{length}
 use borrow.Author.Tests.{le-leb}
-use Rattle.bits.proofs.Cases.{each}
-use Rattle.chip.specs.declared.Chip.{Chip}
-use Rattle.chip.specs.declared.Chip.the-variants.{Newer, Older}
-use Rattle.settings.specs.declared.Settings.{Settings}
-use Rattle.settings.specs.declared.InUse.{InUse}
-use Rattle.session.specs.declared.Phase.{Phase}
-use Rattle.session.specs.declared.Phase.the-variants.{Rest, Instruction, Data}
-use Rattle.session.specs.declared.Port.{Port}
-use Rattle.session.specs.declared.Event.{Event}
-use Rattle.session.specs.declared.Event.the-variants.{Nothing}
-use Rattle.session.specs.State.{atLevels, withLevels, mayStall}
-use Rattle.session.specs.Step.{csbOf, sclkOf, frameStarts, takesBit, frameEnds, entered, withInstructionBit, withDataBit, usedOn, runEnds, withBit, stepOf}
-use Rattle.session.specs.Event.{eventOf}
-use Rattle.records.specs.Records.{recordOf, recordsIn}
-use Rattle.records.specs.BanksAfter.{banksAfter, armedAfter, touchedAfter}
-use Rattle.run.specs.Reading.{World, eventAt, worldAfter, runOf, recordsOf, recordCount}
-use Rattle.refusals.specs.Numbers.{samplesGood, readNumber}
-use Rattle.reader.specs.Calls.{readOf}
+use Rattle.base_bits.proofs.Cases.{each}
+use Rattle.base_chip.specs.declared.Chip.{Chip}
+use Rattle.base_chip.specs.declared.Chip.the-variants.{Newer, Older}
+use Rattle.bus_settings.specs.declared.Settings.{Settings}
+use Rattle.bus_settings.specs.declared.InUse.{InUse}
+use Rattle.bus_session.specs.declared.Phase.{Phase}
+use Rattle.bus_session.specs.declared.Phase.the-variants.{Rest, Instruction, Data}
+use Rattle.bus_session.specs.declared.Port.{Port}
+use Rattle.bus_session.specs.declared.Event.{Event}
+use Rattle.bus_session.specs.declared.Event.the-variants.{Nothing}
+use Rattle.bus_session.specs.State.{atLevels, withLevels, mayStall}
+use Rattle.bus_session.specs.Step.{csbOf, sclkOf, frameStarts, takesBit, frameEnds, entered, withInstructionBit, withDataBit, inUseOn, runEnds, withBit, stepOf}
+use Rattle.bus_session.specs.Event.{eventOf}
+use Rattle.read_records.specs.Records.{recordOf, recordsIn}
+use Rattle.read_records.specs.BanksAfter.{banksAfter, armedAfter, touchedAfter}
+use Rattle.read_run.specs.Reading.{ReaderState, eventAt, readerStateAfter, runOf, recordsOf, recordCount}
+use Rattle.read_refusals.specs.Numbers.{samplesGood, readNumber}
+use Rattle.read_calls.specs.Calls.{readOf}
 use Rattle.guarantees.specs.Repeated.{Slower, end, kept, again, RepeatedSamples, RepeatedCalls}
 use Rattle.guarantees.proofs.Calls.{calls-run, calls-records}
 
@@ -46,7 +46,7 @@ bit-levels c Rest p x e f = record { low = e; clock = f }
 bit-levels c Instruction p x e f = each (Levels false true) (ltb (p .bits) 15) (λ e. record { low = refl; clock = refl }) (λ e. entered-levels c _ _ _)
 bit-levels c Data p x e f =
     each (Levels false true) (ltb (p .bits) 7) (λ e. record { low = refl; clock = refl })
-    (λ e. each (Levels false true) (usedOn c p .single) (λ e. record { low = refl; clock = refl })
+    (λ e. each (Levels false true) (inUseOn c p .«single_instruction») (λ e. record { low = refl; clock = refl })
     (λ e. each (Levels false true) (runEnds c p) (λ e. record { low = refl; clock = refl }) (λ e. record { low = refl; clock = refl })))
 
 pub step-levels : (c : Chip) (p : Port) (x : ℕ) → Levels (csbOf x) (sclkOf x) (stepOf c p x)
@@ -90,10 +90,10 @@ port-again c p x e f = by (p .csb) (p .sclk) refl refl
         (rw (s, t, n) levels, rw (t, n) refl)
 
 -- of the world, nothing changes
-world-again : (c : Chip) (m : List ℕ) (w : World) (x : ℕ) → csbOf x ≡ w .session .port .csb → sclkOf x ≡ w .session .port .sclk
-    → (worldAfter c m w x ≡ w) × (eventAt c w x ≡ Nothing)
+state-again : (c : Chip) (m : List ℕ) (w : ReaderState) (x : ℕ) → csbOf x ≡ w .session .port .csb → sclkOf x ≡ w .session .port .sclk
+    → (readerStateAfter c m w x ≡ w) × (eventAt c w x ≡ Nothing)
 unfolding banksAfter armedAfter touchedAfter
-world-again c m w x e f =
+state-again c m w x e f =
     let q = port-again c (w .session .port) x e f in (
       λ i. record {
         session = record { port = q .0 i; armed = armed-still (q .1) i };
@@ -115,29 +115,29 @@ world-again c m w x e f =
 -- ---- two recordings
 
 -- what both leave
-record Alike (c : Chip) (m : List ℕ) (w : World) (xs ys : List ℕ) : Type 0 where
-  world : runOf c m w xs ≡ runOf c m w ys
+record Alike (c : Chip) (m : List ℕ) (w : ReaderState) (xs ys : List ℕ) : Type 0 where
+  state : runOf c m w xs ≡ runOf c m w ys
   records : recordsOf c m w xs ≡ recordsOf c m w ys
   count : recordCount c (w .session .port) xs ≡ recordCount c (w .session .port) ys
   good : samplesGood xs ≡ samplesGood ys
   shorter : length xs ≤ length ys
 
-nothing-recorded : (c : Chip) (m : List ℕ) (w : World) (v : Event) (after : World) (zs : List ℕ) → v ≡ Nothing → after ≡ w
+nothing-recorded : (c : Chip) (m : List ℕ) (w : ReaderState) (v : Event) (after : ReaderState) (zs : List ℕ) → v ≡ Nothing → after ≡ w
     → recordOf c m (w .banks) (w .session .port .settings) v ++ recordsOf c m after zs ≡ recordsOf c m w zs
 unfolding recordOf
 nothing-recorded c m w v after zs z g = rw (z, g) refl
 
-nothing-counted : (c : Chip) (w : World) (v : Event) (after : World) (zs : List ℕ) → v ≡ Nothing → after ≡ w
+nothing-counted : (c : Chip) (w : ReaderState) (v : Event) (after : ReaderState) (zs : List ℕ) → v ≡ Nothing → after ≡ w
     → recordsIn v + recordCount c (after .session .port) zs ≡ recordCount c (w .session .port) zs
 nothing-counted c w v after zs z g = rw (z, g) (zero-add _)
 
-alike : {csb sclk : Bool} {xs ys : List ℕ} → Slower csb sclk xs ys → (c : Chip) (m : List ℕ) (w : World) → Levels csb sclk (w .session .port) → Alike c m w xs ys
+alike : {csb sclk : Bool} {xs ys : List ℕ} → Slower csb sclk xs ys → (c : Chip) (m : List ℕ) (w : ReaderState) → Levels csb sclk (w .session .port) → Alike c m w xs ys
 unfolding runOf recordsOf recordCount samplesGood
-alike end c m w l = record { world = refl; records = refl; count = refl; good = refl; shorter = omega arith }
+alike end c m w l = record { state = refl; records = refl; count = refl; good = refl; shorter = omega arith }
 alike (kept x s) c m w l =
-    let a = alike s c m (worldAfter c m w x) (step-levels c (w .session .port) x) in
+    let a = alike s c m (readerStateAfter c m w x) (step-levels c (w .session .port) x) in
     record {
-      world = a .world;
+      state = a .state;
       records = ap (λ (r : List ℕ). recordOf c m (w .banks) (w .session .port .settings) (eventAt c w x) ++ r) (a .records);
       count = ap (λ (n : ℕ). recordsIn (eventAt c w x) + n) (a .count);
       good = ap (λ (g : Bool). leb x 15 && g) (a .good);
@@ -145,11 +145,11 @@ alike (kept x s) c m w l =
     }
 alike (again {ys = ys} y small e f s) c m w l =
     let a = alike s c m w l in
-    let q = world-again c m w y (e ∙ sym (l .low)) (f ∙ sym (l .clock)) in
+    let q = state-again c m w y (e ∙ sym (l .low)) (f ∙ sym (l .clock)) in
     record {
-      world = a .world ∙ ap (λ (v : World). runOf c m v ys) (sym (q .0));
-      records = a .records ∙ sym (nothing-recorded c m w (eventAt c w y) (worldAfter c m w y) ys (q .1) (q .0));
-      count = a .count ∙ sym (nothing-counted c w (eventAt c w y) (worldAfter c m w y) ys (q .1) (q .0));
+      state = a .state ∙ ap (λ (v : ReaderState). runOf c m v ys) (sym (q .0));
+      records = a .records ∙ sym (nothing-recorded c m w (eventAt c w y) (readerStateAfter c m w y) ys (q .1) (q .0));
+      count = a .count ∙ sym (nothing-counted c w (eventAt c w y) (readerStateAfter c m w y) ys (q .1) (q .0));
       good = a .good ∙ sym (ap (λ (g : Bool). g && samplesGood ys) (le-leb y 15 small));
       shorter = omega (arith, a .shorter);
     }
@@ -159,13 +159,13 @@ unfolding readOf readNumber
 repeated-samples c m w xs ys records s few =
     let a = alike s c m w (record { low = refl; clock = refl }) in
     let fewer : length xs ≤ 65536 = omega (arith, a .shorter) in
-    rw (le-leb (length xs) 65536 fewer, le-leb (length ys) 65536 few, a .good, a .count, a .world, a .records) refl
+    rw (le-leb (length xs) 65536 fewer, le-leb (length ys) 65536 few, a .good, a .count, a .state, a .records) refl
 
 -- ---- lists of calls
 
 pub repeated-calls : RepeatedCalls
 repeated-calls c m w calls slows s =
     let a = alike s c m w (record { low = refl; clock = refl }) in (
-      calls-run c m w calls ∙ a .world ∙ sym (calls-run c m w slows),
+      calls-run c m w calls ∙ a .state ∙ sym (calls-run c m w slows),
       calls-records c m w calls ∙ a .records ∙ sym (calls-records c m w slows),
     )

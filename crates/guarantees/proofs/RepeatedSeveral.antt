@@ -8,30 +8,30 @@ use native.Mathlib.Nat.{zero-add}
 use borrow.Author.Tests.{le-leb, leb-true, eqb-true, eq-eqb, not-true}
 use lib.Dec.{eqb, leb, ltb}
 use lib.ListN.{length, getD}
-use Rattle.bits.specs.Bits.{bitAt, bitOf}
-use Rattle.bits.proofs.Cases.{yes, no, and-left, and-right}
-use Rattle.bits.proofs.Tables.{allBelow, below}
-use Rattle.chip.specs.declared.Chip.the-variants.{Newer}
-use Rattle.session.specs.declared.Port.{Port}
-use Rattle.session.specs.declared.Event.{Event}
-use Rattle.session.specs.declared.Event.the-variants.{Nothing}
-use Rattle.session.specs.State.{isData, soundSession}
-use Rattle.session.specs.Step.{csbOf, sclkOf, takesBit, stepOf}
-use Rattle.session.specs.Event.{eventOf}
-use Rattle.sessionbytes.specs.Layout.{areSession, sessionOf}
-use Rattle.registers.specs.Banks.{banks}
-use Rattle.records.specs.Records.{recordOf, recordsIn}
-use Rattle.records.specs.BanksAfter.{banksAfter, armedAfter}
-use Rattle.run.specs.Reading.{recordCount}
-use Rattle.several.specs.declared.Member.{Member}
-use Rattle.several.specs.Samples.{Sample, samplesOf, seenBy, allSeenBy, otherLow, sampleGood, allGood}
-use Rattle.several.specs.State.{State, midRead, eventAt, contendedNow, portAfter, stateAfter, given, isRead, numbered, recordAt, allAfter, recordsAt, runAll, recordsAll, bytesOf}
-use Rattle.several.specs.Members.{stateOf, statesOf, markGood, soundMember}
-use Rattle.several.specs.Numbers.{allSound, countFrom, samplesGood, severalNumber}
-use Rattle.several.specs.Calls.{doneOf, severalOf}
-use Rattle.several.proofs.Samples.{sample-count}
-use Rattle.several.proofs.Records.{records-length}
-use Rattle.several.proofs.Accepted.{accepted}
+use Rattle.base_bits.specs.Bits.{bitAt, bitOf}
+use Rattle.base_bits.proofs.Cases.{yes, no, and-left, and-right}
+use Rattle.base_bits.proofs.Tables.{allBelow, below}
+use Rattle.base_chip.specs.declared.Chip.the-variants.{Newer}
+use Rattle.bus_session.specs.declared.Port.{Port}
+use Rattle.bus_session.specs.declared.Event.{Event}
+use Rattle.bus_session.specs.declared.Event.the-variants.{Nothing}
+use Rattle.bus_session.specs.State.{isData, soundSession}
+use Rattle.bus_session.specs.Step.{csbOf, sclkOf, takesBit, stepOf}
+use Rattle.bus_session.specs.Event.{eventOf}
+use Rattle.bus_session_bytes.specs.Layout.{areSession, sessionOf}
+use Rattle.reg_banks.specs.Banks.{banks}
+use Rattle.read_records.specs.Records.{recordOf, recordsIn}
+use Rattle.read_records.specs.BanksAfter.{banksAfter, armedAfter}
+use Rattle.read_run.specs.Reading.{recordCount}
+use Rattle.several_chips.specs.declared.Member.{Member}
+use Rattle.several_chips.specs.Samples.{Sample, samplesIn, seenBy, allSeenBy, otherLow, sampleGood, allGood}
+use Rattle.several_chips.specs.State.{State, midRead, chipEvent, contendedNow, portAfter, stateAfter, given, isReadByte, numbered, recordAt, allAfter, recordsAt, runAll, recordsAll, joinedRecords}
+use Rattle.several_chips.specs.Members.{stateOf, statesOf, markGood, soundMember}
+use Rattle.several_chips.specs.Numbers.{allSound, countFrom, severalSamplesGood, severalNumber}
+use Rattle.several_chips.specs.Calls.{doneOf, severalOf}
+use Rattle.several_chips.proofs.Samples.{sample-count}
+use Rattle.several_chips.proofs.Records.{records-length}
+use Rattle.several_chips.proofs.Accepted.{accepted}
 use Rattle.guarantees.proofs.Alone.{severalOf-done}
 use Rattle.guarantees.specs.RepeatedSeveral.{repeats, repeatsLast, SlowerAll, end, kept, again, RepeatedSeveral}
 use Rattle.guarantees.proofs.Repeated.{Levels, step-levels, port-again}
@@ -133,7 +133,7 @@ module _ (m : List ℕ) (i : ℕ) (s : State) (y : Sample) (e : csbOf (seenBy i 
   record-still = ap (λ (v : Event). given v (numberedOf v)) (still .1)
     where
       numberedOf : Event → List ℕ
-      numberedOf v = numbered i (isRead v && contendedNow i s y) (recordOf Newer m (s .banks) (p .settings) v)
+      numberedOf v = numbered i (isReadByte v && contendedNow i s y) (recordOf Newer m (s .banks) (p .settings) v)
 
 all-still : (m : List ℕ) (i : ℕ) (ss : List State) (y : Sample) → Agree i (portsOf ss) y → SoundMarks ss → (allAfter m i ss y ≡ ss) × (recordsAt m i ss y ≡ [])
 unfolding allAfter recordsAt
@@ -231,7 +231,7 @@ marks-begin mem [] sound = tt
 marks-begin mem (w ∷ ws) sound = (mark-sound w (and-left (soundMember w) (allSound ws) sound), marks-begin mem ws (and-right (soundMember w) (allSound ws) sound))
 
 module _ (m : List ℕ) (ws : List Member) (mem bytes slow old : List ℕ) (even-bytes : length bytes % 2 ≡ 0) (even-slow : length slow % 2 ≡ 0) (few : length slow ≤ 2 * 65536)
-    (s : SlowerAll (length ws) (repeatsLast 0 ws) (samplesOf bytes) (samplesOf slow)) where
+    (s : SlowerAll (length ws) (repeatsLast 0 ws) (samplesIn bytes) (samplesIn slow)) where
   abbrev n : ℕ
   n = length ws
 
@@ -239,29 +239,29 @@ module _ (m : List ℕ) (ws : List Member) (mem bytes slow old : List ℕ) (even
   fewer = omega (arith, even-bytes, even-slow, few, shorter s, sample-count bytes, sample-count slow)
 
   -- number 5 looks alike at both
-  five : samplesGood n bytes ≡ samplesGood n slow
+  five : severalSamplesGood n bytes ≡ severalSamplesGood n slow
   five = rw (eq-eqb _ _ even-bytes, eq-eqb _ _ even-slow, le-leb (length bytes) (2 * 65536) fewer, le-leb (length slow) (2 * 65536) few) (good-alike s)
 
-  both-good : samplesGood n bytes ≡ true → allGood n (samplesOf bytes) ≡ true
+  both-good : severalSamplesGood n bytes ≡ true → allGood n (samplesIn bytes) ≡ true
   both-good e =
-      and-right (leb (length bytes) (2 * 65536)) (allGood n (samplesOf bytes)) (and-right (eqb (length bytes % 2) 0) (leb (length bytes) (2 * 65536) && allGood n (samplesOf bytes)) e)
+      and-right (leb (length bytes) (2 * 65536)) (allGood n (samplesIn bytes)) (and-right (eqb (length bytes % 2) 0) (leb (length bytes) (2 * 65536) && allGood n (samplesIn bytes)) e)
 
-  read-alike : allSound ws ≡ true → samplesGood n bytes ≡ true → AlikeAll m (statesOf mem ws) (samplesOf bytes) (samplesOf slow)
+  read-alike : allSound ws ≡ true → severalSamplesGood n bytes ≡ true → AlikeAll m (statesOf mem ws) (samplesIn bytes) (samplesIn slow)
   read-alike sound good = alike-all s m (statesOf mem ws) (knows-last n 0 mem ws) (marks-begin mem ws sound) (both-good good)
 
-  counted : allSound ws ≡ true → samplesGood n bytes ≡ true → countFrom 0 ws (samplesOf bytes) ≡ countFrom 0 ws (samplesOf slow)
+  counted : allSound ws ≡ true → severalSamplesGood n bytes ≡ true → countFrom 0 ws (samplesIn bytes) ≡ countFrom 0 ws (samplesIn slow)
   counted sound good =
-      let e = ap (λ (l : List (List ℕ)). length (bytesOf l)) (read-alike sound good .records) in
-      omega (arith, e, records-length m mem ws (samplesOf bytes), records-length m mem ws (samplesOf slow))
+      let e = ap (λ (l : List (List ℕ)). length (joinedRecords l)) (read-alike sound good .records) in
+      omega (arith, e, records-length m mem ws (samplesIn bytes), records-length m mem ws (samplesIn slow))
 
   abbrev number : List ℕ → ℕ
   number l = severalNumber m ws (length mem) l (length old)
 
   number-alike : number bytes ≡ number slow
   unfolding severalNumber
-  number-alike = by (allSound ws) (samplesGood n bytes) refl refl
+  number-alike = by (allSound ws) (severalSamplesGood n bytes) refl refl
     where
-      by : (t u : Bool) → allSound ws ≡ t → samplesGood n bytes ≡ u → number bytes ≡ number slow
+      by : (t u : Bool) → allSound ws ≡ t → severalSamplesGood n bytes ≡ u → number bytes ≡ number slow
       by false u e f = rw e refl
       by true false e f = rw (f, sym five ∙ f) refl
       by true true e f = rw (five, counted e f) refl

@@ -3,27 +3,27 @@ use Prim.Native.Nat.{ℕ, zero, suc, _+_}
 use mathlib.Core.Path.{_≡_, refl, ap, sym, _∙_}
 use mathlib.Core.Bool.{Bool}
 use mathlib.Core.List.{List, [], _∷_}
-use Rattle.regmap.specs.Format.{countOf, flagsOf, SameRegisters}
-use Rattle.maptest.specs.MapTest.{topFits}
-use Rattle.convert.proofs.Laws.{accepted}
-use Rattle.convert.proofs.Made.{converted-maps}
-use Rattle.chip.specs.declared.Chip.{Chip}
-use Rattle.chip.specs.declared.Chip.the-variants.{Newer, Older}
-use Rattle.settings.specs.declared.Settings.{Settings}
-use Rattle.session.specs.declared.Event.{Event}
-use Rattle.session.specs.declared.Event.the-variants as event
-use Rattle.session.specs.Event.{eventOf}
-use Rattle.registers.specs.Banks.{Banks, banks, defaultsFrom, defaultBanks, transferFrom, transferred}
-use Rattle.registers.specs.Read.{dueByte}
-use Rattle.writing.specs.declared.Effect.{Effect}
-use Rattle.writing.specs.declared.Effect.the-variants.{Nothing, Active, Buffer, Control, Transfer, Reset, Ignored}
-use Rattle.writing.specs.Write.{effectAt, applied, writeBanks}
-use Rattle.writing.specs.Rise.{armedBy, riseBanks}
-use Rattle.records.specs.Records.{recordOf}
-use Rattle.records.specs.BanksAfter.{banksAfter, armedAfter, touchedAfter}
-use Rattle.run.specs.Reading.{World, worldAfter, runOf, recordsOf}
-use Rattle.refusals.specs.Numbers.{openNumber, readNumber}
-use Rattle.reader.specs.Calls.{openOf, readOf}
+use Rattle.map_format.specs.Format.{countOf, flagsOf, SameRegisters}
+use Rattle.map_test.specs.MapTest.{topFits}
+use Rattle.map_convert.proofs.Laws.{accepted}
+use Rattle.map_convert.proofs.Made.{converted-maps}
+use Rattle.base_chip.specs.declared.Chip.{Chip}
+use Rattle.base_chip.specs.declared.Chip.the-variants.{Newer, Older}
+use Rattle.bus_settings.specs.declared.Settings.{Settings}
+use Rattle.bus_session.specs.declared.Event.{Event}
+use Rattle.bus_session.specs.declared.Event.the-variants as event
+use Rattle.bus_session.specs.Event.{eventOf}
+use Rattle.reg_banks.specs.Banks.{Banks, banks, defaultsFrom, defaultBanks, transferFrom, transferred}
+use Rattle.reg_banks.specs.Read.{dueByte}
+use Rattle.reg_write.specs.declared.Effect.{Effect}
+use Rattle.reg_write.specs.declared.Effect.the-variants.{Nothing, Active, Buffer, Control, Transfer, Reset, Ignored}
+use Rattle.reg_write.specs.Write.{effectAt, applied, writeBanks}
+use Rattle.reg_write.specs.Rise.{armedBy, riseBanks}
+use Rattle.read_records.specs.Records.{recordOf}
+use Rattle.read_records.specs.BanksAfter.{banksAfter, armedAfter, touchedAfter}
+use Rattle.read_run.specs.Reading.{ReaderState, readerStateAfter, runOf, recordsOf}
+use Rattle.read_refusals.specs.Numbers.{openNumber, readNumber}
+use Rattle.read_calls.specs.Calls.{openOf, readOf}
 use Rattle.guarantees.specs.SameMap.{SameMap, ConvertedAlike}
 
 module _ (c : Chip) (m m′ : List ℕ) (s : SameRegisters m m′) (f : flagsOf m ≡ flagsOf m′) where
@@ -101,21 +101,21 @@ module _ (c : Chip) (m m′ : List ℕ) (s : SameRegisters m m′) (f : flagsOf 
   touched-same ws b (event.Aborted a bits inData) = refl
   touched-same ws b event.Ended = refl
 
-  one-same : (w : World) (x : ℕ) → worldAfter c m w x ≡ worldAfter c m′ w x
+  one-same : (w : ReaderState) (x : ℕ) → readerStateAfter c m w x ≡ readerStateAfter c m′ w x
   one-same w x =
       let e = eventOf c (w .session .port) x in
       rw (after-same (w .session .armed) (w .banks) e, armed-same (w .session .armed) (w .banks) e, touched-same (w .touched) (w .banks) e)
 
-  run-same : (w : World) (xs : List ℕ) → runOf c m w xs ≡ runOf c m′ w xs
+  run-same : (w : ReaderState) (xs : List ℕ) → runOf c m w xs ≡ runOf c m′ w xs
   unfolding runOf
   run-same w [] = refl
-  run-same w (x ∷ xs) = run-same (worldAfter c m w x) xs ∙ ap (λ (v : World). runOf c m′ v xs) (one-same w x)
+  run-same w (x ∷ xs) = run-same (readerStateAfter c m w x) xs ∙ ap (λ (v : ReaderState). runOf c m′ v xs) (one-same w x)
 
-  records-same : (w : World) (xs : List ℕ) → recordsOf c m w xs ≡ recordsOf c m′ w xs
+  records-same : (w : ReaderState) (xs : List ℕ) → recordsOf c m w xs ≡ recordsOf c m′ w xs
   unfolding recordsOf
   records-same w [] = refl
   records-same w (x ∷ xs) =
-      rw (record-same (w .banks) (w .session .port .settings) (eventOf c (w .session .port) x), records-same (worldAfter c m w x) xs, one-same w x)
+      rw (record-same (w .banks) (w .session .port .settings) (eventOf c (w .session .port) x), records-same (readerStateAfter c m w x) xs, one-same w x)
 
 -- the top is tested by the count
 top-same : (c : Chip) (m m′ : List ℕ) → SameRegisters m m′ → topFits c m ≡ topFits c m′

@@ -8,28 +8,28 @@ use lib.ListN.{length, take, drop}
 use lib.Pow.{areBytes}
 use lib.Dec.{eqb, ltb}
 use borrow.Author.Tests.{not-true}
-use Rattle.bits.specs.Bits.{bitAt}
-use Rattle.bits.specs.Buffer.{filled}
-use Rattle.bits.specs.Bytes.{wordAt}
-use Rattle.bits.proofs.Cases.{and-left, and-right, or-left, or-right}
-use Rattle.chip.specs.declared.Chip.{Chip}
-use Rattle.chip.specs.declared.Chip.the-variants.{Newer}
-use Rattle.chip.specs.Registers.{configurationA, configurationB}
-use Rattle.settings.specs.declared.Settings.{Settings}
-use Rattle.settings.specs.Settings.{newerAfter}
-use Rattle.run.specs.Reading.{World, runOf, recordsOf, recordCount}
-use Rattle.refusals.specs.Numbers.{samplesGood, readNumber}
-use Rattle.reader.specs.Calls.{outcome, readOf}
-use Rattle.order.specs.Order.{Order, RunByte, isRead, runBytes}
-use Rattle.order.specs.Samples.{samplesOf, allSamples}
-use Rattle.order.specs.Number.{isConfiguration}
-use Rattle.setup.specs.Form.{firstListed, afterFirst, withSettings, listedOf}
-use Rattle.setup.specs.Calls.{mostOrders, ordersOf, firstBad}
-use Rattle.setup.proofs.Numbers.{none-bad, passed}
+use Rattle.base_bits.specs.Bits.{bitAt}
+use Rattle.base_bits.specs.Buffer.{filled}
+use Rattle.base_bits.specs.Bytes.{wordAt}
+use Rattle.base_bits.proofs.Cases.{and-left, and-right, or-left, or-right}
+use Rattle.base_chip.specs.declared.Chip.{Chip}
+use Rattle.base_chip.specs.declared.Chip.the-variants.{Newer}
+use Rattle.base_chip.specs.Registers.{configurationA, configurationB}
+use Rattle.bus_settings.specs.declared.Settings.{Settings}
+use Rattle.bus_settings.specs.Settings.{newerAfter}
+use Rattle.read_run.specs.Reading.{ReaderState, runOf, recordsOf, recordCount}
+use Rattle.read_refusals.specs.Numbers.{samplesGood, readNumber}
+use Rattle.read_calls.specs.Calls.{outcome, readOf}
+use Rattle.send_order.specs.Order.{Order, RunByte, isRead, runBytes}
+use Rattle.send_order.specs.Samples.{samplesOf, allSamples}
+use Rattle.send_order.specs.Number.{isConfiguration}
+use Rattle.send_setup.specs.Form.{firstListed, afterFirst, withSettings, listedOf}
+use Rattle.send_setup.specs.Calls.{mostOrders, ordersOf, firstBad}
+use Rattle.send_setup.proofs.Numbers.{none-bad, passed}
 use Rattle.guarantees.specs.AtRest.{AtRest, Accepted}
 use Rattle.guarantees.specs.Book.{clearOfSettings}
 use Rattle.guarantees.specs.ReadBack.{settingsLeft}
-use Rattle.guarantees.specs.SetupReadBack.{worldPast, worldLeft, setupRecords, setupBytes, configuresLast, anyOrder, SetupReadBack}
+use Rattle.guarantees.specs.SetupReadBack.{statePast, stateLeft, setupRecords, setupBytes, configuresLast, anyOrder, SetupReadBack}
 use Rattle.guarantees.proofs.Calls.{run-append, records-append, count-append}
 use Rattle.guarantees.proofs.Done.{run-sound, rest-sound, mapped-fits, no-refusal, good-append, good-samples}
 use Rattle.guarantees.proofs.ReadBack.{session-end, banks-end, touched-end, count-end, records-end}
@@ -87,7 +87,7 @@ all-accepted settings (suc k) l b z = go (eqb (length l) 0) z (all-accepted sett
 -- ---- one order after the other
 
 -- of an order, to be at rest looks at its settings alone
-same-rest : (m : List ℕ) (w : World) (o p : Order) → p .settings ≡ o .settings → AtRest Newer m w o → AtRest Newer m w p
+same-rest : (m : List ℕ) (w : ReaderState) (o p : Order) → p .settings ≡ o .settings → AtRest Newer m w o → AtRest Newer m w p
 same-rest m w o p e r = record {
   good-map = r .good-map;
   top = r .top;
@@ -101,15 +101,15 @@ same-rest m w o p e r = record {
   same-single = ap (λ (t : ℕ). bitAt t 2) e ∙ r .same-single;
 }
 
-module _ (m : List ℕ) (w : World) (o : Order) (room : ℕ) (rest : AtRest Newer m w o) (accepted : Accepted Newer o room) where
-  past : runOf Newer m w (samplesOf Newer o) ≡ worldPast m w o
+module _ (m : List ℕ) (w : ReaderState) (o : Order) (room : ℕ) (rest : AtRest Newer m w o) (accepted : Accepted Newer o room) where
+  past : runOf Newer m w (samplesOf Newer o) ≡ statePast m w o
   past = λ i. record {
     session = session-end Newer m w o room rest accepted i;
     banks = banks-end Newer m w o room rest accepted i;
     touched = touched-end Newer m w o room rest accepted i;
   }
 
-  rests-again : settingsLeft Newer (isRead o) (w .session .port .settings) (runBytes Newer o) ≡ w .session .port .settings → AtRest Newer m (worldPast m w o) o
+  rests-again : settingsLeft Newer (isRead o) (w .session .port .settings) (runBytes Newer o) ≡ w .session .port .settings → AtRest Newer m (statePast m w o) o
   rests-again e =
       let s = rw past at (run-sound Newer m w (samplesOf Newer o) (rest-sound Newer m w o rest)) in
       record {
@@ -118,50 +118,50 @@ module _ (m : List ℕ) (w : World) (o : Order) (room : ℕ) (rest : AtRest Newe
         sound = s .session-sound;
         at-rest = refl;
         deselected = refl;
-        bank-sizes = mapped-fits m (worldPast m w o .banks) (s .mapped);
+        bank-sizes = mapped-fits m (statePast m w o .banks) (s .mapped);
         words = s .words;
-        same-lsb = rest .same-lsb ∙ ap (λ (t : Settings). t .lsb) (sym e);
+        same-lsb = rest .same-lsb ∙ ap (λ (t : Settings). t .«lsb_first») (sym e);
         same-direction = rest .same-direction ∙ ap (λ (t : Settings). t .ascending) (sym e);
-        same-single = rest .same-single ∙ ap (λ (t : Settings). t .single) (sym e);
+        same-single = rest .same-single ∙ ap (λ (t : Settings). t .«single_instruction») (sym e);
       }
 
 -- what reading all the samples leaves
-record Left (m : List ℕ) (w : World) (os : List Order) : Type 0 where
-  world : runOf Newer m w (allSamples Newer os) ≡ worldLeft m w os
+record Left (m : List ℕ) (w : ReaderState) (os : List Order) : Type 0 where
+  state : runOf Newer m w (allSamples Newer os) ≡ stateLeft m w os
   records : recordsOf Newer m w (allSamples Newer os) ≡ setupRecords m w os
   count : recordCount Newer (w .session .port) (allSamples Newer os) ≡ setupBytes os
   good : samplesGood (allSamples Newer os) ≡ true
 
-left-none : (m : List ℕ) (w : World) → Left m w []
-unfolding allSamples worldLeft setupRecords setupBytes runOf recordsOf recordCount samplesGood
-left-none m w = record { world = refl; records = refl; count = refl; good = refl }
+left-none : (m : List ℕ) (w : ReaderState) → Left m w []
+unfolding allSamples stateLeft setupRecords setupBytes runOf recordsOf recordCount samplesGood
+left-none m w = record { state = refl; records = refl; count = refl; good = refl }
 
 left-more :
-    (m : List ℕ) (w : World) (o : Order) (os : List Order) (room : ℕ) → AtRest Newer m w o → Accepted Newer o room
-    → Left m (worldPast m w o) os → Left m w (o ∷ os)
-unfolding allSamples worldLeft setupRecords setupBytes
+    (m : List ℕ) (w : ReaderState) (o : Order) (os : List Order) (room : ℕ) → AtRest Newer m w o → Accepted Newer o room
+    → Left m (statePast m w o) os → Left m w (o ∷ os)
+unfolding allSamples stateLeft setupRecords setupBytes
 left-more m w o os room rest accepted l =
     let p = past m w o room rest accepted in
     record {
-      world = run-append Newer m w (samplesOf Newer o) (allSamples Newer os) ∙ rw p (l .world);
+      state = run-append Newer m w (samplesOf Newer o) (allSamples Newer os) ∙ rw p (l .state);
       records = records-append Newer m w (samplesOf Newer o) (allSamples Newer os) ∙ rw (p, records-end Newer m w o room rest accepted, l .records);
       count = count-append Newer m w (samplesOf Newer o) (allSamples Newer os) ∙ rw (p, count-end Newer m w o room rest accepted, l .count);
       good = good-append (samplesOf Newer o) (allSamples Newer os) ∙ rw (good-samples Newer o, l .good);
     }
 
 left-all :
-    (m : List ℕ) (w : World) (settings : ℕ) (os : List Order) → AtRest Newer m w (anyOrder settings) → AllAccepted settings os → configuresLast os ≡ true
+    (m : List ℕ) (w : ReaderState) (settings : ℕ) (os : List Order) → AtRest Newer m w (anyOrder settings) → AllAccepted settings os → configuresLast os ≡ true
     → Left m w os
 unfolding AllAccepted configuresLast
 left-all m w settings [] rest a h = left-none m w
 left-all m w settings (o ∷ []) rest a h =
-    left-more m w o [] _ (same-rest m w (anyOrder settings) o (a .0) rest) (a .1) (left-none m (worldPast m w o))
+    left-more m w o [] _ (same-rest m w (anyOrder settings) o (a .0) rest) (a .1) (left-none m (statePast m w o))
 left-all m w settings (o ∷ p ∷ os) rest a h =
     let r = same-rest m w (anyOrder settings) o (a .0) rest in
     let kept = settings-kept (isRead o) (w .session .port .settings) (runBytes Newer o) (and-left (isRead o || clearOfSettings Newer (runBytes Newer o)) (configuresLast (p ∷ os)) h) in
-    let again = same-rest m (worldPast m w o) o (anyOrder settings) (sym (a .0)) (rests-again m w o _ r (a .1) kept) in
+    let again = same-rest m (statePast m w o) o (anyOrder settings) (sym (a .0)) (rests-again m w o _ r (a .1) kept) in
     left-more m w o (p ∷ os) _ r (a .1)
-    (left-all m (worldPast m w o) settings (p ∷ os) again (a .2) (and-right (isRead o || clearOfSettings Newer (runBytes Newer o)) (configuresLast (p ∷ os)) h))
+    (left-all m (statePast m w o) settings (p ∷ os) again (a .2) (and-right (isRead o || clearOfSettings Newer (runBytes Newer o)) (configuresLast (p ∷ os)) h))
 
 pub setup-read-back : SetupReadBack
 unfolding readOf ordersOf
@@ -171,4 +171,4 @@ setup-read-back m settings list room w records rest bytes z h enough =
     let n : readNumber Newer m w (allSamples Newer (ordersOf settings list)) (length records) ≡ 0 =
     no-refusal Newer m w (allSamples Newer (ordersOf settings list)) (length records) (rest .good-map) (rest .top) (rest-sound Newer m w (anyOrder settings) rest) (l .good)
     (p .few) (omega (arith, l .count)) in
-    rw n (λ i. outcome 0 (l .world i) (l .count i) (filled (l .records i) records))
+    rw n (λ i. outcome 0 (l .state i) (l .count i) (filled (l .records i) records))

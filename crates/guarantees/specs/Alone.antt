@@ -7,19 +7,19 @@ use mathlib.Core.List.{List, [], _∷_, _++_, map}
 use mathlib.Core.Logic.{_⊎_}
 use lib.Dec.{eqb}
 use lib.ListN.{length, getD, set}
-use Rattle.chip.specs.declared.Chip.the-variants.{Newer}
-use Rattle.records.specs.Records.{recordOf}
-use Rattle.run.specs.Reading.{World, eventAt, worldAfter, runOf, recordsOf}
-use Rattle.several.specs.declared.Member.{Member}
-use Rattle.several.specs.Samples.{Sample, samplesOf, seenBy, allSeenBy}
-use Rattle.several.specs.State as several
-use Rattle.several.specs.State.{State, contendedNow, stateAfter, given, isRead, numbered, recordsAll, bytesOf}
-use Rattle.several.specs.Members.{stateOf, statesOf}
-use Rattle.several.specs.Numbers.{Range, rangesOf}
-use Rattle.several.specs.Calls.{severalOf}
+use Rattle.base_chip.specs.declared.Chip.the-variants.{Newer}
+use Rattle.read_records.specs.Records.{recordOf}
+use Rattle.read_run.specs.Reading.{ReaderState, eventAt, readerStateAfter, runOf, recordsOf}
+use Rattle.several_chips.specs.declared.Member.{Member}
+use Rattle.several_chips.specs.Samples.{Sample, samplesIn, seenBy, allSeenBy}
+use Rattle.several_chips.specs.State as several
+use Rattle.several_chips.specs.State.{State, contendedNow, stateAfter, given, isReadByte, numbered, recordsAll, joinedRecords}
+use Rattle.several_chips.specs.Members.{stateOf, statesOf}
+use Rattle.several_chips.specs.Numbers.{Range, rangesOf}
+use Rattle.several_chips.specs.Calls.{severalOf}
 
 -- a chip that is read alone: its session and its banks, with any words of touched registers
-abbrev pub alone : State → List ℕ → World
+abbrev pub alone : State → List ℕ → ReaderState
 alone s words = record { session = s .session; banks = s .banks; touched = words }
 
 -- the records that start with a chip's number
@@ -28,16 +28,16 @@ own k [] = []
 own k (r ∷ rs) = cond (eqb (getD r 0 0) k) (r ∷ own k rs) (own k rs)
 
 -- the records of a chip that is read alone, one by one
-unfoldable pub recordList : List ℕ → World → List ℕ → List (List ℕ)
+unfoldable pub recordList : List ℕ → ReaderState → List ℕ → List (List ℕ)
 recordList m w [] = []
 recordList m w (y ∷ ys) =
-    given (eventAt Newer w y) (recordOf Newer m (w .banks) (w .session .port .settings) (eventAt Newer w y)) ++ recordList m (worldAfter Newer m w y) ys
+    given (eventAt Newer w y) (recordOf Newer m (w .banks) (w .session .port .settings) (eventAt Newer w y)) ++ recordList m (readerStateAfter Newer m w y) ys
 
 -- for each of them, whether it is a read byte with another select low at one of its edges
 unfoldable pub contended : List ℕ → ℕ → State → List Sample → List Bool
 contended m k s [] = []
 contended m k s (x ∷ xs) =
-    given (several.eventAt k s x) (isRead (several.eventAt k s x) && contendedNow k s x) ++ contended m k (stateAfter m k s x) xs
+    given (several.chipEvent k s x) (isReadByte (several.chipEvent k s x) && contendedNow k s x) ++ contended m k (stateAfter m k s x) xs
 
 -- records with the chip's number, and 2 where there was contention
 unfoldable pub withNumber : ℕ → List Bool → List (List ℕ) → List (List ℕ)
@@ -52,14 +52,14 @@ Outside j (r ∷ rs) = ((j < r .start) ⊎ (r .start + r .size ≤ j)) × Outsid
 
 -- what a call leaves of chip k, and of the memory that no chip has
 pub record ReadAlone (m : List ℕ) (ws : List Member) (mem bytes old : List ℕ) (words : List ℕ) (k : ℕ) (w after : Member) (memory : List ℕ) : Type 0 where
-  pub session : stateOf memory after .session ≡ runOf Newer m (alone (stateOf mem w) words) (allSeenBy k (samplesOf bytes)) .session
-  pub banks : stateOf memory after .banks ≡ runOf Newer m (alone (stateOf mem w) words) (allSeenBy k (samplesOf bytes)) .banks
+  pub session : stateOf memory after .session ≡ runOf Newer m (alone (stateOf mem w) words) (allSeenBy k (samplesIn bytes)) .session
+  pub banks : stateOf memory after .banks ≡ runOf Newer m (alone (stateOf mem w) words) (allSeenBy k (samplesIn bytes)) .banks
   pub records :
-      own k (recordsAll m (statesOf mem ws) (samplesOf bytes))
-      ≡ withNumber k (contended m k (stateOf mem w) (samplesOf bytes)) (recordList m (alone (stateOf mem w) words) (allSeenBy k (samplesOf bytes)))
+      own k (recordsAll m (statesOf mem ws) (samplesIn bytes))
+      ≡ withNumber k (contended m k (stateOf mem w) (samplesIn bytes)) (recordList m (alone (stateOf mem w) words) (allSeenBy k (samplesIn bytes)))
   pub one-by-one :
-      bytesOf (recordList m (alone (stateOf mem w) words) (allSeenBy k (samplesOf bytes)))
-      ≡ recordsOf Newer m (alone (stateOf mem w) words) (allSeenBy k (samplesOf bytes))
+      joinedRecords (recordList m (alone (stateOf mem w) words) (allSeenBy k (samplesIn bytes)))
+      ≡ recordsOf Newer m (alone (stateOf mem w) words) (allSeenBy k (samplesIn bytes))
   pub outside : (j : ℕ) → Outside j (rangesOf ws) → getD memory j 0 ≡ getD mem j 0
 
 -- The promise, of every call that is not refused and every chip of its list.

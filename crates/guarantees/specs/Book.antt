@@ -4,15 +4,15 @@ use mathlib.Core.Bool.{Bool, true, false, cond, not, _&&_, _||_}
 use mathlib.Core.List.{List, [], _∷_}
 use lib.ListN.{length, take}
 use lib.Dec.{eqb}
-use Rattle.chip.specs.declared.Chip.{Chip}
-use Rattle.chip.specs.declared.Chip.the-variants.{Newer, Older}
-use Rattle.chip.specs.Registers.{serialControl, readbackControl}
-use Rattle.registers.specs.Banks.{Banks}
-use Rattle.touched.specs.Touched.{touchedWords}
-use Rattle.writing.specs.Write.{effectAt, onByte, writeBanks}
-use Rattle.writing.specs.Rise.{armedBy, riseBanks}
-use Rattle.order.specs.Order.{Order, RunByte, isSingle, runBytes}
-use Rattle.order.specs.Number.{isConfiguration}
+use Rattle.base_chip.specs.declared.Chip.{Chip}
+use Rattle.base_chip.specs.declared.Chip.the-variants.{Newer, Older}
+use Rattle.base_chip.specs.Registers.{serialControl, readbackControl}
+use Rattle.reg_banks.specs.Banks.{Banks}
+use Rattle.reg_touched.specs.Touched.{touchedWords}
+use Rattle.reg_write.specs.Write.{effectAt, onByte, writeBanks}
+use Rattle.reg_write.specs.Rise.{armedBy, riseBanks}
+use Rattle.send_order.specs.Order.{Order, RunByte, isSingle, runBytes}
+use Rattle.send_order.specs.Number.{isConfiguration}
 
 -- Byte i (from 1) is whole once 33 + 16i samples have been sent, or 48i + 1 with single instruction.
 abbrev pub wholeAfter : Chip → Order → ℕ → ℕ

@@ -5,10 +5,10 @@ use mathlib.Core.Bool.{false, cond}
 use mathlib.Core.List.{List}
 use lib.ListN.{length, take}
 use lib.Dec.{leb}
-use Rattle.chip.specs.declared.Chip.{Chip}
-use Rattle.run.specs.Reading.{World, runOf}
-use Rattle.order.specs.Order.{Order, isRead, isSingle, runBytes}
-use Rattle.order.specs.Samples.{samplesOf}
+use Rattle.base_chip.specs.declared.Chip.{Chip}
+use Rattle.read_run.specs.Reading.{ReaderState, runOf}
+use Rattle.send_order.specs.Order.{Order, isRead, isSingle, runBytes}
+use Rattle.send_order.specs.Samples.{samplesOf}
 use Rattle.guarantees.specs.AtRest.{AtRest, Accepted}
 use Rattle.guarantees.specs.Book.{wholeAfter, wholeBytes, wholeRun, writeAll}
 
@@ -28,6 +28,6 @@ WholeByte =
 -- then. So the formula is when a byte takes effect.
 abbrev pub WholeEffect : Type 0
 WholeEffect =
-    (c : Chip) (m : List ℕ) (w : World) (o : Order) (room s : ℕ) → AtRest c m w o → Accepted c o room → isRead o ≡ false
+    (c : Chip) (m : List ℕ) (w : ReaderState) (o : Order) (room s : ℕ) → AtRest c m w o → Accepted c o room → isRead o ≡ false
     → s < length (samplesOf c o)
     → runOf c m w (take s (samplesOf c o)) .banks ≡ writeAll c m (wholeRun c o s) (w .banks)

@@ -4,21 +4,21 @@ use mathlib.Core.Path.{_≡_}
 use mathlib.Core.Bool.{Bool, true, false}
 use mathlib.Core.List.{List, [], _∷_, _++_}
 use lib.ListN.{length, replicate, getD, take, drop}
-use Rattle.bits.specs.Bits.{merged}
-use Rattle.numbers.specs.Numbers.{badSamples}
-use Rattle.chip.specs.declared.Chip.the-variants.{Newer}
-use Rattle.regmap.specs.Format.{lengthOf, versionOf, countOf}
-use Rattle.maptest.specs.MapTest.{mapNumber}
-use Rattle.settings.specs.Settings.{nextAddress}
-use Rattle.session.specs.declared.Session.{Session}
-use Rattle.soundness.specs.Opened.{openedSession}
-use Rattle.registers.specs.Banks.{defaultBanks}
-use Rattle.registers.specs.Read.{dueByte}
-use Rattle.run.specs.Reading.{World, runOf, recordsOf}
-use Rattle.refusals.specs.Numbers.{readNumber}
-use Rattle.order.specs.Order.{Order}
-use Rattle.order.specs.Samples.{orderBits, samplesOf, allSamples}
-use Rattle.order.specs.Number.{sendNumber}
+use Rattle.base_bits.specs.Bits.{merged}
+use Rattle.base_numbers.specs.Numbers.{badSamples}
+use Rattle.base_chip.specs.declared.Chip.the-variants.{Newer}
+use Rattle.map_format.specs.Format.{lengthOf, versionOf, countOf}
+use Rattle.map_test.specs.MapTest.{mapNumber}
+use Rattle.bus_settings.specs.Settings.{nextAddress}
+use Rattle.bus_session.specs.declared.Session.{Session}
+use Rattle.bus_soundness.specs.Opened.{openedSession}
+use Rattle.reg_banks.specs.Banks.{defaultBanks}
+use Rattle.reg_banks.specs.Read.{dueByte}
+use Rattle.read_run.specs.Reading.{ReaderState, runOf, recordsOf}
+use Rattle.read_refusals.specs.Numbers.{readNumber}
+use Rattle.send_order.specs.Order.{Order}
+use Rattle.send_order.specs.Samples.{orderBits, samplesOf, allSamples}
+use Rattle.send_order.specs.Number.{sendNumber}
 use Rattle.guarantees.specs.StoppedRun.{stoppedSamples}
 
 -- a good map of 16 registers: each entry is kind, mask, default
@@ -59,7 +59,7 @@ abbrev pub writeThousand : ℕ → Order
 writeThousand settings = record { direction = 0; settings = settings; start = 0x0010; count = 1000; bytes = replicate 1000 0x07 }
 
 -- a map after opening, and a mark
-abbrev pub opened : List ℕ → World
+abbrev pub opened : List ℕ → ReaderState
 opened m = record { session = openedSession; banks = defaultBanks m; touched = 0 ∷ [] }
 
 -- the records of some samples after opening
@@ -67,11 +67,11 @@ abbrev pub recordsAfterOpening : List ℕ → List ℕ → List ℕ
 recordsAfterOpening m xs = recordsOf Newer m (opened m) xs
 
 -- the second map after opening and the samples of some orders, one after another
-abbrev pub after : List Order → World
+abbrev pub after : List Order → ReaderState
 after orders = runOf Newer map17 (opened map17) (allSamples Newer orders)
 
 -- the byte that 0x0010 is then due to answer
-abbrev pub due10 : World → ℕ
+abbrev pub due10 : ReaderState → ℕ
 due10 w = dueByte Newer map17 (w .banks) (w .session .port .settings) 0x0010
 
 -- the byte that is in force at 0x0010 of the flagged map, after opening and some samples

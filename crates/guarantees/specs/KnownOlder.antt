@@ -4,18 +4,18 @@ use mathlib.Core.Path.{_≡_}
 use mathlib.Core.Bool.{Bool, true, false}
 use mathlib.Core.List.{List, [], _∷_, _++_}
 use lib.ListN.{length, take, drop}
-use Rattle.numbers.specs.Numbers.{done, badMapEntry, badStart, badTop}
-use Rattle.chip.specs.declared.Part.the-variants.{Ad9557, Ad9508}
-use Rattle.chip.specs.declared.Chip.{Chip}
-use Rattle.chip.specs.declared.Chip.the-variants.{Older}
-use Rattle.maptest.specs.MapTest.{mapTestNumber}
-use Rattle.settings.specs.declared.Settings.{Settings}
-use Rattle.session.specs.declared.Session.{Session}
-use Rattle.session.specs.State.{resting}
-use Rattle.run.specs.Reading.{World, runOf, recordsOf}
-use Rattle.order.specs.Order.{Order, order}
-use Rattle.order.specs.Samples.{orderBits, samplesOf, clocked}
-use Rattle.order.specs.Number.{sendNumber}
+use Rattle.base_numbers.specs.Numbers.{done, badMapEntry, badStart, badTop}
+use Rattle.base_chip.specs.declared.Part.the-variants.{Ad9557, Ad9508}
+use Rattle.base_chip.specs.declared.Chip.{Chip}
+use Rattle.base_chip.specs.declared.Chip.the-variants.{Older}
+use Rattle.map_test.specs.MapTest.{mapTestNumber}
+use Rattle.bus_settings.specs.declared.Settings.{Settings}
+use Rattle.bus_session.specs.declared.Session.{Session}
+use Rattle.bus_session.specs.State.{resting}
+use Rattle.read_run.specs.Reading.{ReaderState, runOf, recordsOf}
+use Rattle.send_order.specs.Order.{Order, order}
+use Rattle.send_order.specs.Samples.{orderBits, samplesOf, clocked}
+use Rattle.send_order.specs.Number.{sendNumber}
 use Rattle.guarantees.specs.Known.{opened, bitsOfDigits}
 
 -- an AD9508 whose highest address is 0x000F
@@ -54,7 +54,9 @@ pub record OlderResults : Type 0 where
       ≡ bitsOfDigits (0 ∷ 0 ∷ 1 ∷ 0 ∷ 0 ∷ 0 ∷ 0 ∷ 0 ∷ 0 ∷ 0 ∷ 0 ∷ 0 ∷ 1 ∷ 0 ∷ 1 ∷ 1 ∷ [])
   pub two-bytes : olderRecords (samplesOf ad9508 (writeDown 0x000B (0x22 ∷ 0x33 ∷ []))) ≡ plainRecord 0x0B 0x22 ++ plainRecord 0x0A 0x33
   -- after the count bits are passed over: eight more are no byte, and nothing is broken off
-  pub counted : olderRecords (take 49 (samplesOf ad9508 (writeDown 0x000B (0x22 ∷ []))) ++ (clocked (bitsOfDigits (1 ∷ 1 ∷ 1 ∷ 1 ∷ 1 ∷ 1 ∷ 1 ∷ 1 ∷ 1 ∷ [])) ++ (0x01 ∷ [])))
+  pub counted :
+      olderRecords
+      (take 49 (samplesOf ad9508 (writeDown 0x000B (0x22 ∷ []))) ++ (clocked (bitsOfDigits (1 ∷ 1 ∷ 1 ∷ 1 ∷ 1 ∷ 1 ∷ 1 ∷ 1 ∷ 1 ∷ [])) ++ (0x01 ∷ [])))
       ≡ plainRecord 0x0B 0x22
   -- four bytes stream, length 11
   pub streamed-bits : take 16 (orderBits ad9508 (writeDown 0x000F (1 ∷ 2 ∷ 3 ∷ 4 ∷ [])))

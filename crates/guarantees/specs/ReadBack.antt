@@ -4,22 +4,22 @@ use mathlib.Core.Path.{_≡_}
 use mathlib.Core.Bool.{Bool, cond, false}
 use mathlib.Core.List.{List, [], _∷_, _++_}
 use lib.ListN.{length}
-use Rattle.bits.specs.Buffer.{filled}
-use Rattle.sizes.specs.Sizes.{recordSize}
-use Rattle.numbers.specs.Numbers.{done}
-use Rattle.chip.specs.declared.Chip.{Chip}
-use Rattle.settings.specs.declared.Settings.{Settings}
-use Rattle.settings.specs.Settings.{settingsAfter}
-use Rattle.session.specs.declared.Event.the-variants.{Whole}
-use Rattle.session.specs.State.{resting}
-use Rattle.registers.specs.Banks.{Banks}
-use Rattle.writing.specs.Write.{writeBanks}
-use Rattle.writing.specs.Rise.{riseBanks}
-use Rattle.records.specs.Records.{recordOf}
-use Rattle.run.specs.Reading.{World}
-use Rattle.reader.specs.Calls.{Outcome, readOf}
-use Rattle.order.specs.Order.{Order, RunByte, isRead, runBytes}
-use Rattle.order.specs.Samples.{samplesOf}
+use Rattle.base_bits.specs.Buffer.{filled}
+use Rattle.base_sizes.specs.Sizes.{recordSize}
+use Rattle.base_numbers.specs.Numbers.{done}
+use Rattle.base_chip.specs.declared.Chip.{Chip}
+use Rattle.bus_settings.specs.declared.Settings.{Settings}
+use Rattle.bus_settings.specs.Settings.{settingsAfter}
+use Rattle.bus_session.specs.declared.Event.the-variants.{Whole}
+use Rattle.bus_session.specs.State.{resting}
+use Rattle.reg_banks.specs.Banks.{Banks}
+use Rattle.reg_write.specs.Write.{writeBanks}
+use Rattle.reg_write.specs.Rise.{riseBanks}
+use Rattle.read_records.specs.Records.{recordOf}
+use Rattle.read_run.specs.Reading.{ReaderState}
+use Rattle.read_calls.specs.Calls.{Outcome, readOf}
+use Rattle.send_order.specs.Order.{Order, RunByte, isRead, runBytes}
+use Rattle.send_order.specs.Samples.{samplesOf}
 use Rattle.guarantees.specs.AtRest.{AtRest, Accepted}
 use Rattle.guarantees.specs.Book.{armedAll, touchedAll}
 
@@ -57,11 +57,12 @@ recordsLeft c m read b t (p ∷ ps) =
     ++ recordsLeft c m read (banksPast c m read b p) (settingsPast c read t p) ps
 
 -- What reading a whole run leaves: as many records as the order counts, one for each of its bytes; the banks with these bytes and
--- their rise; the words with the registers that they touch; and the session at rest again, with the settings that the bytes leave. The line bytes of a read are the zeros that were sent.
-abbrev pub readBackOf : Chip → List ℕ → World → Order → List ℕ → Outcome
+-- their rise; the words with the registers that they touch; and the session at rest again, with the settings that the bytes
+-- leave. The line bytes of a read are the zeros that were sent.
+abbrev pub readBackOf : Chip → List ℕ → ReaderState → Order → List ℕ → Outcome
 readBackOf c m w o records = record {
   number = done;
-  world = record {
+  state = record {
     session = record { port = resting false (settingsLeft c (isRead o) (w .session .port .settings) (runBytes c o)); armed = false };
     banks = banksRaised c m (isRead o) (w .banks) (runBytes c o);
     touched = touchedLeft c m (isRead o) (w .banks) (w .touched) (runBytes c o);
@@ -74,6 +75,6 @@ readBackOf c m w o records = record {
 -- byte: reading the sender's samples is done, and leaves just that.
 abbrev pub ReadBack : Type 0
 ReadBack =
-    (c : Chip) (m : List ℕ) (o : Order) (room : ℕ) (w : World) (records : List ℕ)
+    (c : Chip) (m : List ℕ) (o : Order) (room : ℕ) (w : ReaderState) (records : List ℕ)
     → AtRest c m w o → Accepted c o room → recordSize * o .count ≤ length records
     → readOf c m w (samplesOf c o) records ≡ readBackOf c m w o records

@@ -5,12 +5,12 @@ use mathlib.Core.Bool.{Bool, true, _&&_, Bool·beq}
 use mathlib.Core.List.{List, [], _∷_}
 use lib.Dec.{eqb}
 use lib.ListN.{length}
-use Rattle.bits.specs.Bits.{bitAt}
-use Rattle.session.specs.Step.{sclkOf}
-use Rattle.sessionbytes.specs.Layout.{sessionOf}
-use Rattle.several.specs.declared.Member.{Member}
-use Rattle.several.specs.Samples.{Sample, samplesOf, sampleGood}
-use Rattle.several.specs.Calls.{severalOf}
+use Rattle.base_bits.specs.Bits.{bitAt}
+use Rattle.bus_session.specs.Step.{sclkOf}
+use Rattle.bus_session_bytes.specs.Layout.{sessionOf}
+use Rattle.several_chips.specs.declared.Member.{Member}
+use Rattle.several_chips.specs.Samples.{Sample, samplesIn, sampleGood}
+use Rattle.several_chips.specs.Calls.{severalOf}
 
 -- the second sample has all selects and SCLK of the first
 abbrev pub repeats : Sample → Sample → Bool
@@ -35,5 +35,5 @@ pub data SlowerAll (chips : ℕ) : (Sample → Bool) → List Sample → List Sa
 abbrev pub RepeatedSeveral : Type 0
 RepeatedSeveral =
     (m : List ℕ) (ws : List Member) (mem bytes slow old : List ℕ) → length bytes % 2 ≡ 0 → length slow % 2 ≡ 0 → length slow ≤ 2 * 65536
-    → SlowerAll (length ws) (repeatsLast 0 ws) (samplesOf bytes) (samplesOf slow)
+    → SlowerAll (length ws) (repeatsLast 0 ws) (samplesIn bytes) (samplesIn slow)
     → severalOf m ws mem bytes old ≡ severalOf m ws mem slow old

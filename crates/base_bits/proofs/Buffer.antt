@@ -1,0 +1,18 @@
+-- Bytes stored into a buffer one after another.
+use mathlib.Core.Path.{_≡_, _∙_}
+use mathlib.Core.List.{List, [], _∷_, _++_}
+use Prim.Native.Nat.{ℕ, suc, _+_, _≤_}
+use native.Mathlib.Omega.{arith}
+use native.Mathlib.Nat.{add-zero, add-suc, suc-add, zero-add}
+use lib.ListN.{length}
+use lib.Seq.{sets, sets-eq}
+use Rattle.base_bits.specs.Buffer.{filled}
+
+-- two runs of bytes, the second at the place after the first
+pub sets-append : (a b l : List ℕ) (i : ℕ) → sets l i (a ++ b) ≡ sets (sets l i a) (i + length a) b
+sets-append [] b l i = rw add-zero
+sets-append (x ∷ a) b l i = rw (add-suc, ← suc-add) (sets-append a b _ (suc i))
+
+-- bytes from the start on
+pub sets-filled : (bytes old : List ℕ) → length bytes ≤ length old → sets old 0 bytes ≡ filled bytes old
+sets-filled bytes old h = sets-eq bytes old 0 (omega arith) ∙ rw zero-add

@@ -1,0 +1,6 @@
+pub mod Paths
+pub mod Progress
+pub mod Onward
+mod Resting
+mod Dense
+pub mod Scanning

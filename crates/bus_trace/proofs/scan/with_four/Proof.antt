@@ -1,0 +1,65 @@
+-- `with_four` meets its contract: four bits above the others, turned by the card, or under them.
+use Prim.Native.Nat.{ℕ, _+_, _*_, _/_, _%_, _^_, _<_}
+use mathlib.Core.Path.{_≡_, sym, _∙_, ap}
+use mathlib.Core.Bool.{Bool}
+use native.Mathlib.Omega.{arith}
+use lib.Pow.{shl-exact}
+use Rattle.base_card.specs.Card.{turned}
+use Rattle.bus_trace.specs.Scan.{shiftedFour}
+use Rattle.bus_trace.proofs.Dense.{low-four, high-four, turned-lt, above-fits, value-lt}
+use borrow.Author.Needs.{needs}
+use Rattle.bus_trace.proofs.scan.with_four.Statement.{statement}
+use Rattle.bus_trace.proofs.scan.with_four.Tie as tie
+
+mul-turn : tie.Need-mul-turn
+mul-turn c = search needs
+
+turn-requires : tie.Need-turn-requires
+turn-requires c κs = search needs
+
+cast-result : tie.Need-cast-result
+cast-result c = search needs
+
+shl-result : tie.Need-shl-result
+shl-result c = search needs
+
+add-result : tie.Need-add-result
+add-result c =
+    let a = c .before .before in
+    let small : c .turn .result < 16 = omega (arith, c .turn .ensures, turned-lt (a .args .more) (a .pre .2)) in
+    rw (shl-exact 4 (a .args .bits) 16 small (omega (arith, a .pre .1))) (record { fits = above-fits (c .turn .result) (a .args .value) (a .args .bits) small (a .pre .0) (a .pre .1) })
+
+returns : tie.Need-returns
+returns c =
+    let a = c .before .before in
+    let small : c .turn .result < 16 = omega (arith, c .turn .ensures, turned-lt (a .args .more) (a .pre .2)) in
+    λ w x y z e.
+    ap (λ (k : ℕ). a .args .value + k) (shl-exact 4 (a .args .bits) 16 small (omega (arith, a .pre .1)))
+    ∙ ap (λ (k : ℕ). a .args .value + k * 2 ^ a .args .bits) (c .turn .ensures ∙ ap (λ (k : ℕ). turned 8 (k * 16)) e)
+    ∙ low-four (a .args .value) (a .args .bits) w x y z
+    ∙ ap (λ (l : Bool). shiftedFour l (a .args .value) (a .args .bits) w x y z) (sym (c .before .if1 .taken))
+
+mul-result : tie.Need-mul-result
+mul-result c = omega (arith, value-lt (c .before .args .value) (c .before .args .bits) (c .before .pre .0) (c .before .pre .1))
+
+add-result-2 : tie.Need-add-result-2
+add-result-2 c = omega (arith, value-lt (c .before .args .value) (c .before .args .bits) (c .before .pre .0) (c .before .pre .1), c .before .pre .2)
+
+returns-2 : tie.Need-returns-2
+returns-2 c =
+    let a = c .before in
+    λ w x y z e. ap (λ (k : ℕ). a .args .value * 16 + k) e ∙ high-four (a .args .value) (a .args .bits) w x y z ∙ ap (λ (l : Bool). shiftedFour l (a .args .value) (a .args .bits) w x y z) (sym (c .if1 .left))
+
+pub with-four-spec : {M : Type 1} → statement M
+with-four-spec =
+    tie.close
+    (tie.spec
+    mul-turn
+    turn-requires
+    cast-result
+    shl-result
+    add-result
+    returns
+    mul-result
+    add-result-2
+    returns-2)

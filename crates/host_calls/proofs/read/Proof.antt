@@ -1,0 +1,59 @@
+-- `read` meets its contract: bytes that are a session are read as `read_on` reads it, and its next session is bytes again.
+use mathlib.Core.Path.{sym, _∙_}
+use borrow.Author.Needs.{needs}
+use Rattle.host_calls.proofs.Laws.{no-session, read-bytes}
+use Rattle.host_calls.proofs.read.Statement.{statement}
+use Rattle.host_calls.proofs.read.Tie as tie
+
+are-session-requires : tie.Need-are-session-requires
+are-session-requires c κs = search needs
+
+session-of-requires : tie.Need-session-of-requires
+session-of-requires c κs = search needs
+
+read-on-requires : tie.Need-read-on-requires
+read-on-requires c κs = search needs
+
+bytes-of-requires : tie.Need-bytes-of-requires
+bytes-of-requires c κs = search needs
+
+cast-result : tie.Need-cast-result
+cast-result c = search needs
+
+same-length : tie.Need-same-length
+same-length c = search needs
+
+same-length-2 : tie.Need-same-length-2
+same-length-2 c = search needs
+
+same-length-3 : tie.Need-same-length-3
+same-length-3 c = search needs
+
+same-length-4 : tie.Need-same-length-4
+same-length-4 c = search needs
+
+returns : tie.Need-returns
+returns c = read-bytes _ _ _ _ _ _ _ _ (sym (c .before .before .before .before .before .before .before .before .before .before .before .before .before .before .before .before .before .before .before .before .are-session .ensures) ∙ c .before .before .before .before .before .before .before .before .before .before .before .before .before .before .before .before .before .before .before .if1 .taken) (c .before .before .before .before .before .before .before .before .before .before .before .before .before .before .before .before .session-of .ensures) (c .before .before .before .before .before .before .before .before .before .before .before .read-on .ensures) _ (c .before .bytes-of .ensures)
+
+cast-result-2 : tie.Need-cast-result-2
+cast-result-2 c = search needs
+
+returns-2 : tie.Need-returns-2
+returns-2 c = no-session _ _ _ _ _ _ _ _ (sym (c .before .are-session .ensures) ∙ c .if1 .left)
+
+pub read-spec : {M : Type 1} → statement M
+read-spec =
+    tie.close
+    (tie.spec
+    are-session-requires
+    session-of-requires
+    read-on-requires
+    bytes-of-requires
+    cast-result
+    same-length
+    same-length-2
+    same-length-3
+    same-length-4
+    returns
+    cast-result-2
+    returns-2)

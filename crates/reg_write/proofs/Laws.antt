@@ -1,0 +1,125 @@
+-- Laws of a write: an effect on a byte is within the banks, and a write keeps their sizes.
+use mathlib.Core.Path.{_≡_, refl, sym, _∙_, ap}
+use mathlib.Core.Bool.{Bool, true, false, cond, _&&_, xor, false≢true}
+use mathlib.Core.List.{List}
+use Prim.Native.Nat.{ℕ, _<_}
+use native.Mathlib.Omega.{arith}
+use borrow.Author.Tests.{eqb-true}
+use lib.ListN.{length, getD, length-set}
+use lib.Seq.{getD-set-same}
+use lib.Bits.{bitXor}
+use lib.Dec.{eqb}
+use Rattle.base_bits.specs.Bits.{bitAt, merged}
+use Rattle.base_bits.proofs.Cases.{each}
+use Rattle.base_bits.proofs.Laws.{merged-bit, xor-bit}
+use Rattle.map_format.specs.declared.Entry.{Entry}
+use Rattle.map_format.specs.Format.{registerAt, plain, buffered, control}
+use Rattle.base_card.specs.Card.{isMirror}
+use Rattle.base_chip.specs.declared.Chip.{Chip}
+use Rattle.base_chip.specs.Chip.{isNewer}
+use Rattle.bus_settings.specs.declared.Settings.{Settings}
+use Rattle.bus_settings.specs.Settings.{resets, transfersAt}
+use Rattle.reg_banks.specs.Banks.{Banks, Mapped}
+use Rattle.reg_banks.proofs.Laws.{mapped-defaults, mapped-transfer, in-banks}
+use Rattle.reg_write.specs.declared.Stages.{Stages}
+use Rattle.reg_write.specs.declared.Effect.{Effect}
+use Rattle.reg_write.specs.declared.Effect.the-variants.{Nothing, Active, Buffer, Control, Transfer, Reset, Ignored}
+use Rattle.reg_write.specs.Effect.{controlEffect, movedBits, effectOf}
+use Rattle.reg_write.specs.Write.{effectAt, applied, onByte, touchesOn, writeBanks, writtenBy, writtenOf}
+use Rattle.reg_write.specs.Rise.{movesAtRise, armedBy, armedOn, riseBanks}
+
+-- ---- no effect on a control register is on a byte
+
+pub control-apart : (c : Chip) (a v : ℕ) → onByte (controlEffect c a v) ≡ false
+unfolding controlEffect
+control-apart c a v =
+    each Apart (isNewer c && eqb a 0x0000) (λ e. each Apart (isMirror v) (λ e. each Apart (resets v) (λ e. refl) (λ e. refl)) (λ e. refl))
+    (λ e. each Apart (transfersAt c a v) (λ e. refl) (λ e. refl))
+  where
+    Apart : Effect → Type 0
+    Apart e = onByte e ≡ false
+
+-- ---- the bits that moved
+
+-- Bit i of them is one exactly where the mask lets the bit through and that of v differs from the old one.
+pub moved-bit : (old v mask i : ℕ) → i < 8 → bitAt (movedBits old v mask) i ≡ (bitAt mask i && xor (bitAt old i) (bitAt v i))
+unfolding xor
+moved-bit old v mask i h =
+    xor-bit old (merged 8 old v mask) i ∙ rw (merged-bit 8 old v mask i h) (through (bitAt mask i) (bitAt old i) (bitAt v i))
+  where
+    through : (m o n : Bool) → xor o (cond m n o) ≡ (m && xor o n)
+    through true o n = refl
+    through false true n = refl
+    through false false n = refl
+
+-- ---- an effect on the banks
+
+-- an effect on a byte is within the banks
+pub effect-within : (c : Chip) {m : List ℕ} {b : Banks} → Mapped m b → (s : Stages) (a v : ℕ)
+    → onByte (effectOf c (registerAt m a) s a v) ≡ true → a < length (b .active)
+unfolding effectOf
+effect-within c {m} {b} h s a v =
+    each Inside (eqb (registerAt m a .kind) plain) (λ k t. in-banks h (eqb-true _ _ k) (λ z. omega arith) .0)
+    (λ _. each Inside (eqb (registerAt m a .kind) buffered) (λ k t. in-banks h (eqb-true _ _ k) (λ z. omega arith) .0)
+    (λ _. each Inside (eqb (registerAt m a .kind) control) (λ k t. absurd (false≢true (sym (control-apart c a v) ∙ t)))
+    (λ _ t. absurd (false≢true t))))
+  where
+    Inside : Effect → Type 0
+    Inside e = onByte e ≡ true → a < length (b .active)
+
+module _ {m : List ℕ} {b : Banks} (h : Mapped m b) where
+  -- What a write answers as moved is the difference of the register's byte before and after it, in the stage that it is written to.
+  pub moved-active : (c : Chip) (t : Settings) (a v : ℕ) → registerAt m a .kind ≡ plain
+      → writtenOf c m b t a v .moved ≡ bitXor (getD (b .active) a 0) (getD (writeBanks c m b a v .active) a 0)
+  unfolding effectOf applied writeBanks writtenBy
+  moved-active c t a v k =
+      let inside : a < length (b .active) = in-banks h k (λ z. omega arith) .0 in
+      rw k (ap (bitXor (getD (b .active) a 0)) (sym (getD-set-same (b .active) a _ 0 inside)))
+
+  pub moved-buffer : (c : Chip) (t : Settings) (a v : ℕ) → registerAt m a .kind ≡ buffered
+      → writtenOf c m b t a v .moved ≡ bitXor (getD (b .buffer) a 0) (getD (writeBanks c m b a v .buffer) a 0)
+  unfolding effectOf applied writeBanks writtenBy
+  moved-buffer c t a v k =
+      let inside : a < length (b .buffer) = in-banks h k (λ z. omega arith) .1 in
+      rw k (ap (bitXor (getD (b .buffer) a 0)) (sym (getD-set-same (b .buffer) a _ 0 inside)))
+
+  mapped-applied : (a : ℕ) (e : Effect) → Mapped m (applied m b a e)
+  unfolding applied
+  mapped-applied a Nothing = h
+  mapped-applied a (Active byte moved) = record { active-size = simp length-set (h .active-size); buffer-size = h .buffer-size }
+  mapped-applied a (Buffer byte moved) = record { active-size = h .active-size; buffer-size = simp length-set (h .buffer-size) }
+  mapped-applied a Control = h
+  mapped-applied a Transfer = mapped-transfer h
+  mapped-applied a Reset = mapped-defaults m
+  mapped-applied a Ignored = h
+
+  pub mapped-write : (c : Chip) (a v : ℕ) → Mapped m (writeBanks c m b a v)
+  unfolding writeBanks
+  mapped-write c a v = mapped-applied a (effectAt c m b a v)
+
+  pub mapped-rise : (c : Chip) (armed : Bool) → Mapped m (riseBanks c m armed b)
+  unfolding riseBanks
+  mapped-rise c armed = each (Mapped m) (armed && movesAtRise c m) (λ e. mapped-transfer h) (λ e. h)
+
+-- the number of an effect arms a session just as the effect does
+pub armed-number : (c : Chip) (m : List ℕ) (armed : Bool) (t : Settings) (a v : ℕ) (e : Effect)
+    → armedOn c m armed (writtenBy c t a v e .effect) ≡ armedBy c m armed e
+unfolding armedOn armedBy writtenBy
+armed-number c m armed t a v Nothing = refl
+armed-number c m armed t a v (Active byte moved) = refl
+armed-number c m armed t a v (Buffer byte moved) = refl
+armed-number c m armed t a v Control = refl
+armed-number c m armed t a v Transfer = refl
+armed-number c m armed t a v Reset = refl
+armed-number c m armed t a v Ignored = refl
+
+-- and it touches a register just as the effect does
+pub touches-number : (c : Chip) (t : Settings) (a v : ℕ) (e : Effect) → touchesOn (writtenBy c t a v e .effect) ≡ onByte e
+unfolding writtenBy
+touches-number c t a v Nothing = refl
+touches-number c t a v (Active byte moved) = refl
+touches-number c t a v (Buffer byte moved) = refl
+touches-number c t a v Control = refl
+touches-number c t a v Transfer = refl
+touches-number c t a v Reset = refl
+touches-number c t a v Ignored = refl

@@ -1,0 +1,26 @@
+-- `armed_on` meets its contract: the tests of the definition, in its order.
+use borrow.Author.Needs.{needs}
+use borrow.Author.Tests.{eq-eqb, ne-eqb}
+use mathlib.Core.Path.{refl}
+use Rattle.base_bits.proofs.Cases.{yes, no}
+use Rattle.reg_write.specs.Rise.{armedOn}
+use Rattle.reg_write.proofs.rise.armed_on.Statement.{statement}
+use Rattle.reg_write.proofs.rise.armed_on.Tie as tie
+
+returns : tie.Need-returns
+unfolding armedOn
+returns c = yes _ (eq-eqb _ _ (c .if1 .taken)) refl
+
+moves-at-rise-requires : tie.Need-moves-at-rise-requires
+moves-at-rise-requires c κs = search needs
+
+returns-2 : tie.Need-returns-2
+unfolding armedOn
+returns-2 c = no _ (ne-eqb _ _ (c .before .before .if1 .left)) (yes _ (eq-eqb _ _ (c .before .if2 .taken)) (rw (c .moves-at-rise .ensures)))
+
+returns-3 : tie.Need-returns-3
+unfolding armedOn
+returns-3 c = no _ (ne-eqb _ _ (c .before .if1 .left)) (no _ (ne-eqb _ _ (c .if2 .left)) refl)
+
+pub armed-on-spec : {M : Type 1} → statement M
+armed-on-spec = tie.close (tie.spec returns moves-at-rise-requires returns-2 returns-3)

@@ -1,0 +1,198 @@
+// The write of one register: its effect is decided first, then applied to the two banks and answered.
+ghost use mathlib.Core.Path.{_≡_};
+ghost use mathlib.Core.Bool.{true};
+ghost use Prim.Native.Nat.{_<_};
+ghost use lib.ListN.{length};
+ghost use Rattle.reg_banks.specs.Banks.{banks, Mapped};
+ghost use Rattle.reg_write.specs.Write.{stagesAt, effectAt, applied, onByte, touchesOn, written, controlWritten, writtenBy, Wrote};
+
+mod rise;
+mod rule;
+
+use base_chip::Chip;
+use bus_settings::Settings;
+use map_format::entry_at;
+use reg_banks::reset;
+use reg_banks::transfer;
+pub use rise::armed_on;
+pub use rise::end_frame;
+pub use rise::moves_at_rise;
+pub use rule::effect_of;
+
+// The numbers of three effects: the active byte of a register was written; its buffer byte was; a soft reset.
+const EFFECT_ACTIVE: u8 = 1;
+
+const EFFECT_BUFFER: u8 = 2;
+
+const EFFECT_RESET: u8 = 5;
+
+// What a write does to the registers.
+pub enum Effect {
+    Nothing,
+    // The active byte of the register becomes this one, and these bits of it differ from the old one.
+    Active { byte: u8, moved: u8 },
+    // Its buffer byte does.
+    Buffer { byte: u8, moved: u8 },
+    // Settings alone may change.
+    Control,
+    // Every buffered register's active byte takes its buffer byte.
+    Transfer,
+    // Every default goes into both banks.
+    Reset,
+    // A byte to 0x0000 that is not its own mirror: nothing changes.
+    Ignored,
+}
+
+// What the write of one register answers: the byte to record, the number of the effect, and the bits of the byte that moved.
+pub struct Written {
+    pub byte: u8,
+    pub effect: u8,
+    pub moved: u8,
+}
+
+// Whether the effect of this number is on the byte of one register, which is then touched.
+pub fn touches(effect: u8) -> bool
+    ensures { λ r. ⌜ r ≡ touchesOn effect ⌝ }
+{
+    (effect == EFFECT_ACTIVE) | (effect == EFFECT_BUFFER)
+}
+
+// The bytes of one register in both stages.
+pub struct Stages {
+    pub active: u8,
+    pub buffer: u8,
+}
+
+// The bytes at an address of the two banks.
+fn stages_at(active: &[u8], buffer: &[u8], at: usize) -> Stages
+    requires { ⌜ (length (now buffer) ≡ length (now active)) × (at < length (now active)) ⌝ }
+    ensures { λ r. ⌜ r ≡ stagesAt (banks (now (active .entry)) (now (buffer .entry))) at ⌝ }
+{
+    Stages {
+        active: active[at],
+        buffer: buffer[at],
+    }
+}
+
+// What a write that changes nothing answers, with the byte to record.
+fn untaken(byte: u8) -> Written
+    ensures { λ r. ⌜ r ≡ written byte 0 0 ⌝ }
+{
+    Written {
+        byte: byte,
+        effect: 0,
+        moved: 0,
+    }
+}
+
+// What a write of v to a control register answers: its reading afterwards, and the number of the effect.
+fn control_answer(chip: Chip, settings: Settings, address: u16, v: u8, effect: u8) -> Written
+    ensures { λ r. ⌜ r ≡ controlWritten chip settings address v effect ⌝ }
+{
+    // Field by field, so that a write to any other register copies no settings.
+    let before = Settings {
+        lsb_first: settings.lsb_first,
+        ascending: settings.ascending,
+        sdo_active: settings.sdo_active,
+        single_instruction: settings.single_instruction,
+        readback: settings.readback,
+    };
+    let after = before.after(chip, address, v);
+    Written {
+        byte: after.reading(chip, address),
+        effect: effect,
+        moved: 0,
+    }
+}
+
+// What a write of v to the register at an address does. Nothing changes yet.
+pub fn effect_at(
+    chip: Chip,
+    map: &[u8],
+    active: &[u8],
+    buffer: &[u8],
+    address: u16,
+    v: u8,
+) -> Effect
+    requires { ⌜ Mapped (now map) (banks (now active) (now buffer)) ⌝ }
+    ensures { λ r. ⌜ r ≡ effectAt chip (now (map .entry)) (banks (now (active .entry)) (now (buffer .entry))) address v ⌝ }
+{
+    let at = address as usize;
+    // Beyond the banks a register is blank.
+    if active.len() <= at {
+        return Effect::Nothing;
+    }
+    let register = entry_at(map, active.len(), at);
+    let stages = stages_at(active, buffer, at);
+    effect_of(chip, register, stages, address, v)
+}
+
+// Does an effect on the register at an address to the two banks.
+fn apply(map: &[u8], active: &mut [u8], buffer: &mut [u8], address: u16, effect: Effect)
+    requires { ⌜ (Mapped (now map) (banks (now active) (now buffer))) × (onByte effect ≡ true → address < length (now active)) ⌝ }
+    ensures { λ r.
+        ⌜ banks (now (active .exit)) (now (buffer .exit))
+        ≡ applied (now (map .entry)) (banks (now (active .entry)) (now (buffer .entry))) address effect ⌝ }
+{
+    let at = address as usize;
+    match effect {
+        Effect::Nothing => {}
+        Effect::Active { byte, moved: _ } => {
+            active[at] = byte;
+        }
+        Effect::Buffer { byte, moved: _ } => {
+            buffer[at] = byte;
+        }
+        Effect::Control => {}
+        Effect::Transfer => {
+            transfer(map, active, buffer);
+        }
+        Effect::Reset => {
+            reset(map, active, buffer);
+        }
+        Effect::Ignored => {}
+    }
+}
+
+// What a write of v answers, by its effect and the settings before it.
+pub fn answer(chip: Chip, settings: Settings, address: u16, v: u8, effect: Effect) -> Written
+    ensures { λ r. ⌜ r ≡ writtenBy chip settings address v effect ⌝ }
+{
+    match effect {
+        Effect::Nothing => untaken(0),
+        Effect::Active { byte, moved } => Written {
+            byte: byte,
+            effect: EFFECT_ACTIVE,
+            moved: moved,
+        },
+        Effect::Buffer { byte, moved } => Written {
+            byte: byte,
+            effect: EFFECT_BUFFER,
+            moved: moved,
+        },
+        Effect::Control => control_answer(chip, settings, address, v, 3),
+        Effect::Transfer => control_answer(chip, settings, address, v, 4),
+        Effect::Reset => control_answer(chip, settings, address, v, EFFECT_RESET),
+        Effect::Ignored => untaken(settings.reading(chip, address)),
+    }
+}
+
+// Writes v to the register at an address. The settings are those before the write.
+pub fn write(
+    chip: Chip,
+    map: &[u8],
+    active: &mut [u8],
+    buffer: &mut [u8],
+    settings: Settings,
+    address: u16,
+    v: u8,
+) -> Written
+    requires { ⌜ Mapped (now map) (banks (now active) (now buffer)) ⌝ }
+    ensures { λ r.
+        ⌜ Wrote chip (now (map .entry)) (banks (now (active .entry)) (now (buffer .entry))) settings address v r
+        (banks (now (active .exit)) (now (buffer .exit))) ⌝ }
+{
+    let effect = effect_at(chip, map, active, buffer, address, v);
+    apply(map, active, buffer, address, effect);
+    answer(chip, settings, address, v, effect)
+}

@@ -1,0 +1,30 @@
+-- `put_closing` meets its contract: two stores.
+use mathlib.Core.Path.{refl}
+use native.Mathlib.Omega.{arith}
+use native.Mathlib.Numerals.{add-one}
+use lib.ListN.{length-set}
+use borrow.Author.Needs.{needs}
+use Rattle.send_samples.proofs.samples.put_closing.Statement.{statement}
+use Rattle.send_samples.proofs.samples.put_closing.Tie as tie
+
+slice-write-out : tie.Need-slice-write-out
+slice-write-out c = search needs
+
+add-out : tie.Need-add-out
+add-out c = search needs
+
+slice-write-out-2 : tie.Need-slice-write-out-2
+slice-write-out-2 c = simp length-set (omega arith)
+
+add-result : tie.Need-add-result
+add-result c = search needs
+
+same-length : tie.Need-same-length
+same-length c = search needs
+
+returns : tie.Need-returns
+returns c = record { next-place = refl; buffer = rw (add-one (c .args .at)) }
+
+pub put-closing-spec : {M : Type 1} → statement M
+put-closing-spec =
+    tie.close (tie.spec slice-write-out add-out slice-write-out-2 add-result same-length returns)

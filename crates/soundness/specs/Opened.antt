@@ -1,9 +1,0 @@
--- Document 01, "Registers and session": the opened session.
-use mathlib.Core.Bool.{false}
-use Rattle.settings.specs.Settings.{allClear}
-use Rattle.session.specs.declared.Session.{Session}
-use Rattle.session.specs.State.{resting}
-
--- Opening: at rest, last SCLK low, all settings clear.
-abbrev pub openedSession : Session
-openedSession = record { port = resting false allClear; armed = false }

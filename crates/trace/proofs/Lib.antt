@@ -1,6 +1,0 @@
-pub mod Paths
-pub mod Pieces
-pub mod Onward
-mod Resting
-mod Dense
-pub mod Scanning
