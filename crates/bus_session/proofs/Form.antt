@@ -1,7 +1,7 @@
 -- A sound session is of one of five forms, the last two on older chips alone, and each sample leads from a form to a form.
 use Prim.Native.Nat.{ℕ, zero, suc, _+_, _-_, _/_, _%_, _^_, _<_, _≤_}
 use mathlib.Core.Bool.{Bool, true, false, cond, not, _&&_, _||_, true≢false, false≢true}
-use mathlib.Core.Path.{_≡_, refl, sym, subst, ap, _∙_}
+use mathlib.Core.Path.{_≡_, refl, sym, subst}
 use native.Mathlib.Omega.{arith}
 use lib.Dec.{lit<, ltb, leb, eqb}
 use borrow.Author.Tests.{ltb-true, lt-ltb, lt-leb, leb-true, le-leb, eqb-true, eqb-false, ne-eqb, not-true}

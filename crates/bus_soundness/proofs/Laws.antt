@@ -2,7 +2,7 @@
 use mathlib.Core.Bool.{true, false}
 use mathlib.Core.Path.{_≡_, refl}
 use Rattle.base_chip.specs.declared.Chip.{Chip}
-use Rattle.bus_session.specs.State.{resting, soundSession}
+use Rattle.bus_session.specs.State.{soundSession}
 use Rattle.bus_session.proofs.Form.{rests, form-sound}
 use Rattle.bus_soundness.specs.Opened.{openedSession}
 

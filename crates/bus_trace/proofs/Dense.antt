@@ -1,5 +1,5 @@
 -- Eight samples that give four bits: the bits at once are those taken one by one.
-use mathlib.Core.Path.{_≡_, refl, sym, _∙_, ap, ap₂, subst}
+use mathlib.Core.Path.{_≡_, refl, sym, _∙_, ap, subst}
 use mathlib.Core.Bool.{Bool, true, false}
 use mathlib.Core.List.{List}
 use Prim.Native.Nat.{ℕ, zero, suc, _+_, _-_, _*_, _/_, _%_, _^_, _<_, _≤_}
@@ -21,7 +21,7 @@ use Rattle.bus_words.proofs.Seconds.{lane-bit}
 use Rattle.bus_trace.specs.declared.scan.Progress.{Progress}
 use Rattle.bus_trace.specs.declared.scan.Bits.{Bits}
 use Rattle.bus_trace.specs.Scan.{progress, ProgressBounds, LowScanAfter, RisesAhead, LanesTaken, BitsAfter, shiftedThree, shiftedFour}
-use Rattle.bus_trace.proofs.Onward.{taken, Rise, Going, going-begun, going-join, took-join, took-rise, word-passed, gathered-begun, next-rise, gathered-more}
+use Rattle.bus_trace.proofs.Onward.{taken, Going, going-begun, going-join, took-join, took-rise, word-passed, gathered-begun, next-rise, gathered-more}
 
 -- ---- the value
 

@@ -18,14 +18,14 @@ use Rattle.bus_session.specs.declared.Port.{Port}
 use Rattle.bus_session.specs.State.{widthOf, soundPort}
 use Rattle.bus_session.proofs.Laws.{fit-sound}
 use Rattle.bus_words.specs.Words.{wordOf}
-use Rattle.bus_words.specs.Lanes.{clockOf, Level, highsIn, lowsIn, levelIn, risesIn}
+use Rattle.bus_words.specs.Lanes.{clockOf, Level, highsIn, levelIn, risesIn}
 use Rattle.bus_words.proofs.Lanes.{clock-level, clock-mask, zeros-lowest, without-lowest, lows-le, lows-all, lows-full}
 use Rattle.bus_words.proofs.Samples.{rises-sample, lows-low, lows-high, level-in}
 use Rattle.bus_trace.specs.declared.scan.Progress.{Progress}
 use Rattle.bus_trace.specs.declared.scan.Bits.{Bits}
 use Rattle.bus_trace.specs.declared.high.Past.{Past}
-use Rattle.bus_trace.specs.Progress.{lastOf, sourceLine, Reached}
-use Rattle.bus_trace.specs.Scan.{progress, LowScanBefore, Onward, ProgressBounds, LowScanAfter, ScanBefore, ScanAfter, levelAfter, Rested, lowsAt, RisesAhead, LanesTaken, BitsAfter}
+use Rattle.bus_trace.specs.Progress.{lastOf}
+use Rattle.bus_trace.specs.Scan.{progress, Onward, ProgressBounds, LowScanAfter, ScanAfter, levelAfter, Rested, lowsAt, RisesAhead, LanesTaken, BitsAfter}
 use Rattle.bus_trace.proofs.Progress.{idle, bit, past-high}
 
 module _ {xs : List ℕ} {line : ℕ} {lsb : Bool} {last : ℕ} where

@@ -15,7 +15,7 @@ use Rattle.bus_session.specs.Step.{sdioOf, frameStarts, frameEnds, takesBit, va
 use Rattle.bus_session.specs.State.{isData}
 use Rattle.bus_session.specs.Event.{bitEvent, eventOf}
 use Rattle.bus_session.proofs.Laws.{entered-settings}
-use Rattle.bus_trace.specs.Path.{Quiet, still, more, NextPath, none, one, happens}
+use Rattle.bus_trace.specs.Path.{Quiet, still, more, happens}
 
 pub joined : {c : Chip} {xs : List ℕ} {s t u : Port} {i j k : ℕ} → Quiet c xs s i t j → Quiet c xs t j u k → Quiet c xs s i u k
 joined p still = p

@@ -1,11 +1,9 @@
 -- Masks of eight samples, lane by lane: each law is proved once over the lanes, the lowest first.
-use mathlib.Core.Path.{_≡_, refl, sym, _∙_, ap, ap₂, subst}
-use mathlib.Core.Bool.{Bool, true, false, cond}
+use mathlib.Core.Path.{_≡_, refl, sym, _∙_, ap, ap₂}
 use Prim.Native.Nat.{ℕ, zero, suc, _+_, _-_, _*_, _/_, _%_, _^_, _<_, _≤_}
 use native.Mathlib.Omega.{arith}
-use native.Mathlib.Nat.{pow-suc, suc-add, zero-add, zero-sub, zero-mul, mul-assoc, mul-right-comm, add-mul, one-mul, mod-self}
-use lib.Dec.{eqb}
-use lib.Pow.{pow-add, pow-pos, high, low, split, shr-shr, field, mod-mod-pow}
+use native.Mathlib.Nat.{pow-suc, suc-add, zero-add, zero-sub, mul-assoc, mul-right-comm, add-mul, one-mul, mod-self}
+use lib.Pow.{pow-pos, high, low, split, shr-shr, field, mod-mod-pow}
 use lib.Bits.{bitAnd, bitOr, bitXor, and-block, xor-block, and-mask, and-high, and-self, and-shifted, and-zero-r, or-shifted, xor-lt, shifted-half, shifted-even}
 use lib.Count.{under, trailingZeros, trailing-le, trailing-of-zero}
 use borrow.Author.Tests.{eq-eqb, ne-eqb}

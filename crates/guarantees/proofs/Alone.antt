@@ -29,7 +29,7 @@ use Rattle.several_chips.proofs.Accepted.{accepted}
 use Rattle.several_chips.proofs.Kept.{banks-sized}
 use Rattle.several_chips.proofs.Listed.{with-at, state-back}
 use Rattle.several_chips.proofs.Memory.{AllRanged, AllMapped, own-banks, all-mapped}
-use Rattle.guarantees.specs.Alone.{alone, own, recordList, contended, withNumber, Outside, AsIfAlone, blotted, SameFor, NoOtherSelect}
+use Rattle.guarantees.specs.Alone.{alone, own, recordList, contended, withNumber, Outside, AsIfAlone, blotted, NoOtherSelect}
 
 -- ---- a chip's records are its own
 

@@ -1,6 +1,6 @@
 -- A run that the sender accepts goes to its last byte: on an older chip its count is that of its instruction, or it streams, and its addresses
 -- stay from 0 to the top. Behind the last byte no counted run is left.
-use Prim.Native.Nat.{ℕ, zero, suc, _+_, _-_, _≤_, _<_}
+use Prim.Native.Nat.{ℕ, suc, _+_, _-_, _≤_, _<_}
 use mathlib.Core.Path.{_≡_, refl, ap, subst, _∙_}
 use mathlib.Core.Bool.{Bool, true, false, cond, false≢true}
 use mathlib.Core.List.{List, [], _∷_, foldl}
@@ -14,7 +14,7 @@ use Rattle.base_chip.specs.declared.Chip.{Chip}
 use Rattle.base_chip.specs.declared.Chip.the-variants.{Newer, Older}
 use Rattle.bus_settings.specs.declared.Settings.{Settings}
 use Rattle.bus_settings.specs.declared.InUse.{InUse}
-use Rattle.bus_settings.specs.Settings.{counting, nextAddress}
+use Rattle.bus_settings.specs.Settings.{nextAddress}
 use Rattle.bus_session.specs.declared.Port.{Port}
 use Rattle.bus_session.specs.declared.Event.the-variants.{Whole}
 use Rattle.bus_session.specs.State.{inData, isCounted, soundPort}

@@ -12,7 +12,6 @@ use lib.Seq.{take-nil, take-append-le}
 use borrow.Author.Tests.{ltb-true}
 use Rattle.base_bits.specs.Bits.{bitAt}
 use Rattle.base_bits.proofs.Cases.{each}
-use Rattle.base_chip.specs.Chip.{topGood}
 use Rattle.base_chip.specs.declared.Chip.{Chip}
 use Rattle.base_chip.specs.declared.Chip.the-variants.{Newer, Older}
 use Rattle.bus_settings.specs.declared.Settings.{Settings}
@@ -29,11 +28,11 @@ use Rattle.read_run.specs.Reading.{ReaderState}
 use Rattle.send_order.specs.Order.{Order, RunByte, isRead, isSingle, runFrom, sentBytes, runBytes}
 use Rattle.send_order.specs.Samples.{bitsOf, instructionOf, lengthAndAddress, runBits, orderBits, clocked, samplesOf}
 use Rattle.send_order.proofs.Laws.{length-sent, top-low, older-start, admitted}
-use Rattle.guarantees.specs.AtRest.{countingOf, AtRest, Accepted}
+use Rattle.guarantees.specs.AtRest.{AtRest, Accepted}
 use Rattle.guarantees.specs.Book.{wholeBytes}
 use Rattle.guarantees.proofs.Events.{eventsOf}
 use Rattle.guarantees.proofs.Pieces.{leftOf, highest, TopFits, stopped-instruction}
-use Rattle.guarantees.proofs.Runs.{wholeOf, AllFit, Goes, clocked-then, period, ready, ending, run-events}
+use Rattle.guarantees.proofs.Runs.{wholeOf, AllFit, Goes, clocked-then, period, ending, run-events}
 use Rattle.guarantees.proofs.Fit.{order-fits}
 use Rattle.guarantees.proofs.Goes.{newer-goes, instruction-leaves, older-goes}
 

@@ -1,7 +1,7 @@
 -- An instruction and a byte of data, from the samples that the sender makes of their bits, stopped anywhere: nothing happens before the last bit.
 use Prim.Native.Nat.{ℕ, zero, suc, _+_, _-_, _*_, _/_, _%_, _^_, _<_, _≤_}
 use mathlib.Core.Path.{_≡_, refl, ap, _∙_}
-use mathlib.Core.Bool.{Bool, true, false, cond, not, _&&_}
+use mathlib.Core.Bool.{Bool, true, false, cond, _&&_}
 use mathlib.Core.List.{List, [], _∷_, _++_, map, map-id, foldl}
 use native.Mathlib.Decide.{decLt}
 use native.Mathlib.Omega.{arith}
@@ -20,7 +20,7 @@ use Rattle.bus_session.specs.declared.Phase.the-variants.{Instruction, Data}
 use Rattle.bus_session.specs.declared.Port.{Port}
 use Rattle.bus_session.specs.declared.Event.{Event}
 use Rattle.bus_session.specs.declared.Event.the-variants.{Nothing, Whole}
-use Rattle.bus_session.specs.State.{withPhase, resting, passing, instructing, inData, isCounted}
+use Rattle.bus_session.specs.State.{withPhase, passing, instructing, inData}
 use Rattle.bus_session.specs.Step.{sdioOf, sdoOf, entered, afterByte, withInstructionBit, withDataBit, withBit, stepOf}
 use Rattle.bus_session.specs.Event.{bitEvent, eventOf}
 use Rattle.send_order.specs.Samples.{highFirst, lowFirst, bitsOf, instructionOf, lengthBits, lengthAndAddress, clocked}

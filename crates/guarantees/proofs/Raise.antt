@@ -16,7 +16,7 @@ use Rattle.bus_session.specs.declared.Port.{Port}
 use Rattle.bus_session.specs.declared.Session.{Session}
 use Rattle.bus_session.specs.declared.Event.{Event}
 use Rattle.bus_session.specs.declared.Event.the-variants.{Nothing}
-use Rattle.bus_session.specs.State.{isRest, isCounted, mayArm, soundPort, soundSession}
+use Rattle.bus_session.specs.State.{isCounted, mayArm, soundPort, soundSession}
 use Rattle.bus_session.specs.Step.{csbOf, takesBit, frameEnds}
 use Rattle.bus_session.specs.Event.{endEvent, eventOf}
 use Rattle.bus_session.proofs.Form.{Form, rests, instructs, has-data, stalls, passes, sound-form}

@@ -1,32 +1,30 @@
 -- A sample that repeats all selects and SCLK changes no chip, gives no record, and is none of number 5.
-use Prim.Native.Nat.{ℕ, zero, suc, _+_, _*_, _%_, _/_, _^_, _-_, _<_, _≤_}
+use Prim.Native.Nat.{ℕ, _+_, _*_, _%_, _^_, _-_, _≤_}
 use mathlib.Core.Path.{_≡_, refl, sym, ap, ap₂, _∙_, subst}
-use mathlib.Core.Bool.{Bool, true, false, cond, not, _&&_, _||_, Bool·beq}
+use mathlib.Core.Bool.{Bool, true, false, not, _&&_, _||_, Bool·beq}
 use mathlib.Core.List.{List, [], _∷_, _++_}
 use native.Mathlib.Omega.{arith}
-use native.Mathlib.Nat.{zero-add}
 use borrow.Author.Tests.{le-leb, leb-true, eqb-true, eq-eqb, not-true}
-use lib.Dec.{eqb, leb, ltb}
-use lib.ListN.{length, getD}
+use lib.Dec.{eqb, leb}
+use lib.ListN.{length}
 use Rattle.base_bits.specs.Bits.{bitAt, bitOf}
-use Rattle.base_bits.proofs.Cases.{yes, no, and-left, and-right}
+use Rattle.base_bits.proofs.Cases.{and-left, and-right}
 use Rattle.base_bits.proofs.Tables.{allBelow, below}
 use Rattle.base_chip.specs.declared.Chip.the-variants.{Newer}
 use Rattle.bus_session.specs.declared.Port.{Port}
 use Rattle.bus_session.specs.declared.Event.{Event}
 use Rattle.bus_session.specs.declared.Event.the-variants.{Nothing}
-use Rattle.bus_session.specs.State.{isData, soundSession}
+use Rattle.bus_session.specs.State.{soundSession}
 use Rattle.bus_session.specs.Step.{csbOf, sclkOf, takesBit, stepOf}
 use Rattle.bus_session.specs.Event.{eventOf}
 use Rattle.bus_session_bytes.specs.Layout.{areSession, sessionOf}
 use Rattle.reg_banks.specs.Banks.{banks}
-use Rattle.read_records.specs.Records.{recordOf, recordsIn}
+use Rattle.read_records.specs.Records.{recordOf}
 use Rattle.read_records.specs.BanksAfter.{banksAfter, armedAfter}
-use Rattle.read_run.specs.Reading.{recordCount}
 use Rattle.several_chips.specs.declared.Member.{Member}
-use Rattle.several_chips.specs.Samples.{Sample, samplesIn, seenBy, allSeenBy, otherLow, sampleGood, allGood}
-use Rattle.several_chips.specs.State.{State, midRead, chipEvent, contendedNow, portAfter, stateAfter, given, isReadByte, numbered, recordAt, allAfter, recordsAt, runAll, recordsAll, joinedRecords}
-use Rattle.several_chips.specs.Members.{stateOf, statesOf, markGood, soundMember}
+use Rattle.several_chips.specs.Samples.{Sample, samplesIn, seenBy, otherLow, sampleGood, allGood}
+use Rattle.several_chips.specs.State.{State, midRead, contendedNow, portAfter, stateAfter, given, isReadByte, numbered, recordAt, allAfter, recordsAt, runAll, recordsAll, joinedRecords}
+use Rattle.several_chips.specs.Members.{statesOf, markGood, soundMember}
 use Rattle.several_chips.specs.Numbers.{allSound, countFrom, severalSamplesGood, severalNumber}
 use Rattle.several_chips.specs.Calls.{doneOf, severalOf}
 use Rattle.several_chips.proofs.Samples.{sample-count}
@@ -34,7 +32,7 @@ use Rattle.several_chips.proofs.Records.{records-length}
 use Rattle.several_chips.proofs.Accepted.{accepted}
 use Rattle.guarantees.proofs.Alone.{severalOf-done}
 use Rattle.guarantees.specs.RepeatedSeveral.{repeats, repeatsLast, SlowerAll, end, kept, again, RepeatedSeveral}
-use Rattle.guarantees.proofs.Repeated.{Levels, step-levels, port-again}
+use Rattle.guarantees.proofs.Repeated.{step-levels, port-again}
 
 -- ---- what a chip sees of good lines
 

@@ -8,8 +8,7 @@ use lib.Dec.{eqb}
 use lib.ListN.{length, getD, set, replicate}
 use lib.Seq.{getD-set-same, getD-set-other}
 use borrow.Author.Tests.{eqb-true, eqb-false}
-use Rattle.base_bits.proofs.Cases.{each}
-use Rattle.reg_touched.specs.Touched.{touchedBits, clearedWords, touchedWords}
+use Rattle.reg_touched.specs.Touched.{touchedBits, touchedWords}
 use Rattle.reg_touched.proofs.Meaning.{touch-sets-one, mark-clears-all, search-finds-next}
 use Rattle.base_chip.specs.declared.Chip.{Chip}
 use Rattle.map_format.specs.Format.{countOf}
@@ -26,7 +25,7 @@ use Rattle.read_run.specs.Reading.{ReaderState, eventAt, readerStateAfter, runO
 use Rattle.read_refusals.specs.Numbers.{readNumber}
 use Rattle.read_refusals.proofs.Laws.{read-tests, fits-mapped, bits-enough}
 use Rattle.read_calls.specs.Calls.{readOf}
-use Rattle.guarantees.specs.Calls.{Call, outcomeOf, afterCalls}
+use Rattle.guarantees.specs.Calls.{outcomeOf, afterCalls}
 use Rattle.guarantees.specs.Touched.{named, recordedBy, isTouched, TouchedBy, TouchedSinceMark}
 
 or-join : (x y z : Bool) → ((x || y) || z) ≡ (x || (y || z))

@@ -11,7 +11,7 @@ use Rattle.base_chip.specs.declared.Chip.the-variants.{Newer}
 use Rattle.read_records.specs.Records.{recordOf}
 use Rattle.read_run.specs.Reading.{ReaderState, eventAt, readerStateAfter, runOf, recordsOf}
 use Rattle.several_chips.specs.declared.Member.{Member}
-use Rattle.several_chips.specs.Samples.{Sample, samplesIn, seenBy, allSeenBy}
+use Rattle.several_chips.specs.Samples.{Sample, samplesIn, allSeenBy}
 use Rattle.several_chips.specs.State as several
 use Rattle.several_chips.specs.State.{State, contendedNow, stateAfter, given, isReadByte, numbered, recordsAll, joinedRecords}
 use Rattle.several_chips.specs.Members.{stateOf, statesOf}

@@ -10,7 +10,6 @@ use Rattle.bus_settings.specs.declared.Settings.{Settings}
 use Rattle.bus_settings.specs.declared.InUse.{InUse}
 use Rattle.bus_settings.specs.Settings.{inUseOf, counting}
 use Rattle.bus_session.specs.declared.Phase.the-variants.{Rest}
-use Rattle.bus_session.specs.declared.Session.{Session}
 use Rattle.bus_session.specs.State.{soundSession}
 use Rattle.read_run.specs.Reading.{ReaderState}
 use Rattle.read_refusals.specs.Numbers.{banksFit, wordsFit}

@@ -10,7 +10,6 @@ use Rattle.base_chip.specs.declared.Chip.the-variants.{Newer}
 use Rattle.map_format.specs.Format.{lengthOf, versionOf, countOf}
 use Rattle.map_test.specs.MapTest.{mapNumber}
 use Rattle.bus_settings.specs.Settings.{nextAddress}
-use Rattle.bus_session.specs.declared.Session.{Session}
 use Rattle.bus_soundness.specs.Opened.{openedSession}
 use Rattle.reg_banks.specs.Banks.{defaultBanks}
 use Rattle.reg_banks.specs.Read.{dueByte}

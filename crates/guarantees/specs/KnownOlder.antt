@@ -1,7 +1,6 @@
 -- Document 02, Ask 1: worked examples of the older chips, as one table.
 use Prim.Native.Nat.{ℕ}
 use mathlib.Core.Path.{_≡_}
-use mathlib.Core.Bool.{Bool, true, false}
 use mathlib.Core.List.{List, [], _∷_, _++_}
 use lib.ListN.{length, take, drop}
 use Rattle.base_numbers.specs.Numbers.{done, badMapEntry, badStart, badTop}
@@ -9,10 +8,7 @@ use Rattle.base_chip.specs.declared.Part.the-variants.{Ad9557, Ad9508}
 use Rattle.base_chip.specs.declared.Chip.{Chip}
 use Rattle.base_chip.specs.declared.Chip.the-variants.{Older}
 use Rattle.map_test.specs.MapTest.{mapTestNumber}
-use Rattle.bus_settings.specs.declared.Settings.{Settings}
-use Rattle.bus_session.specs.declared.Session.{Session}
-use Rattle.bus_session.specs.State.{resting}
-use Rattle.read_run.specs.Reading.{ReaderState, runOf, recordsOf}
+use Rattle.read_run.specs.Reading.{recordsOf}
 use Rattle.send_order.specs.Order.{Order, order}
 use Rattle.send_order.specs.Samples.{orderBits, samplesOf, clocked}
 use Rattle.send_order.specs.Number.{sendNumber}

@@ -1,16 +1,15 @@
 -- A sound session is armed in a frame of a newer chip alone, and each sample keeps that.
 use mathlib.Core.Path.{_≡_, refl, sym, ap, _∙_}
-use mathlib.Core.Bool.{Bool, true, false, cond, not, _&&_, _||_, true≢false, false≢true, or-true}
+use mathlib.Core.Bool.{Bool, true, false, cond, not, _||_, true≢false, false≢true, or-true}
 use mathlib.Core.List.{List}
 use Prim.Native.Nat.{ℕ}
 use lib.Dec.{eqb, ltb}
-use borrow.Author.Tests.{eqb-true, not-true}
+use borrow.Author.Tests.{eqb-true}
 use Rattle.base_bits.proofs.Cases.{each, and-left, and-right}
 use Rattle.base_chip.specs.declared.Chip.{Chip}
 use Rattle.base_chip.specs.declared.Chip.the-variants.{Newer, Older}
 use Rattle.base_chip.specs.declared.Part.{Part}
 use Rattle.bus_settings.specs.declared.Settings.{Settings}
-use Rattle.bus_session.specs.declared.Phase.the-variants.{Rest, Instruction, Data}
 use Rattle.bus_session.specs.declared.Port.{Port}
 use Rattle.bus_session.specs.declared.Session.{Session}
 use Rattle.bus_session.specs.declared.Event.{Event}

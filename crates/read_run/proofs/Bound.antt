@@ -16,7 +16,7 @@ use Rattle.bus_session.specs.declared.Phase.the-variants.{Rest, Instruction, Da
 use Rattle.bus_session.specs.declared.Port.{Port}
 use Rattle.bus_session.specs.declared.Event.{Event}
 use Rattle.bus_session.specs.declared.Event.the-variants.{Nothing, Whole, Aborted, Ended}
-use Rattle.bus_session.specs.State.{atLevels, withLevels, resting, starting, isData, isCounted, mayStall}
+use Rattle.bus_session.specs.State.{atLevels, withLevels, resting, starting, isData, isCounted}
 use Rattle.bus_session.specs.Step.{stepOf, csbOf, sclkOf, inUseOn, runEnds, withBit, withDataBit, afterByte, settingsOnByte, valueWith, dataLine}
 use Rattle.bus_session.specs.Event.{eventOf, bitEvent, endEvent}
 use Rattle.read_records.specs.Records.{recordsIn}

@@ -19,7 +19,7 @@ use Rattle.bus_session.specs.Step.{stepOf}
 use Rattle.bus_session.specs.Event.{eventOf}
 use Rattle.bus_trace.specs.Path.{Quiet, still, more, NextPath, none, one}
 use Rattle.bus_trace.proofs.Paths.{settings-quiet}
-use Rattle.reg_banks.specs.Banks.{Banks, banks, Mapped}
+use Rattle.reg_banks.specs.Banks.{banks, Mapped}
 use Rattle.read_records.specs.BanksAfter.{banksAfter, armedAfter, touchedAfter}
 use Rattle.read_records.specs.Records.{recordOf}
 use Rattle.read_records.specs.declared.EventOutcome.{EventOutcome}

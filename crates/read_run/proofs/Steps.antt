@@ -1,5 +1,5 @@
 -- The samples at which a scan stops: what each makes of the port, field by field, and what it completes.
-use Prim.Native.Nat.{ℕ, _+_, _-_, _/_, _%_, _<_, _≤_}
+use Prim.Native.Nat.{ℕ, _+_, _-_, _/_, _%_, _≤_}
 use mathlib.Core.Path.{_≡_, refl, sym, _∙_, ap}
 use mathlib.Core.Bool.{Bool, true, false, cond, not, _&&_, false≢true, and-true, and-false}
 use native.Mathlib.Omega.{arith}

@@ -4,7 +4,6 @@ use mathlib.Core.Bool.{cond, _&&_}
 use mathlib.Core.List.{List}
 use lib.ListN.{getD}
 use lib.Dec.{eqb}
-use Rattle.map_format.specs.declared.Entry.{Entry}
 use Rattle.map_format.specs.Format.{registerAt, blank, buffered, control}
 use Rattle.base_chip.specs.declared.Chip.{Chip}
 use Rattle.base_chip.specs.Chip.{readsBuffer}

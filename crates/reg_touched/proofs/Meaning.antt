@@ -5,7 +5,7 @@ use mathlib.Core.List.{List}
 use Prim.Native.Nat.{ℕ, _+_, _*_, _/_, _%_, _^_}
 use native.Mathlib.Omega.{arith}
 use lib.Bits.{bitOr}
-use lib.ListN.{length, getD, set, length-set, length-replicate}
+use lib.ListN.{length, getD, set, length-set}
 use Rattle.reg_touched.specs.Touched.{touchedBits, touchedWords, clearedWords}
 use Rattle.reg_touched.specs.Meaning.{BitOfAddress, TouchSetsOne, MarkClearsAll, SearchFindsNext}
 use Rattle.reg_touched.proofs.Row.{next-from}

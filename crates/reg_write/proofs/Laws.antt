@@ -12,7 +12,6 @@ use lib.Dec.{eqb}
 use Rattle.base_bits.specs.Bits.{bitAt, merged}
 use Rattle.base_bits.proofs.Cases.{each}
 use Rattle.base_bits.proofs.Laws.{merged-bit, xor-bit}
-use Rattle.map_format.specs.declared.Entry.{Entry}
 use Rattle.map_format.specs.Format.{registerAt, plain, buffered, control}
 use Rattle.base_card.specs.Card.{isMirror}
 use Rattle.base_chip.specs.declared.Chip.{Chip}

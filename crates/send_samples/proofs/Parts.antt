@@ -17,7 +17,7 @@ use Rattle.base_chip.specs.declared.Chip.the-variants.{Newer, Older}
 use Rattle.send_samples.specs.declared.RunSettings.{RunSettings}
 use Rattle.send_order.specs.Order.{Order, order, isRead, runFrom, sentOf, sentBytes}
 use Rattle.send_order.specs.Samples.{bitsOf, instructionOf, lengthBits, lengthAndAddress, byteBits, runBits, orderBits, clocked, samplesOf}
-use Rattle.send_samples.specs.Run.{orderRun, openingSamples, byteSamples, runSamples, closingSamples, wholeSamples}
+use Rattle.send_samples.specs.Run.{orderRun, byteSamples, runSamples, closingSamples, wholeSamples}
 use Rattle.send_order.proofs.Laws.{clocked-append, length-clocked, length-byte-bits, length-samples, length-sent}
 
 -- the samples of a byte: with single instruction its own instruction goes before it

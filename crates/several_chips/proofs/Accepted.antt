@@ -1,9 +1,9 @@
 -- What it means that a call on several chips is not refused.
-use mathlib.Core.Path.{_≡_, refl, sym, ap, _∙_, subst}
-use mathlib.Core.Bool.{Bool, true, false, _&&_, _||_, cond}
+use mathlib.Core.Path.{_≡_, refl, sym, ap, _∙_}
+use mathlib.Core.Bool.{Bool, true, false, _&&_, _||_}
 use mathlib.Core.List.{List, [], _∷_}
 use mathlib.Core.Logic.{_⊎_, inl, inr}
-use Prim.Native.Nat.{ℕ, zero, suc, _+_, _*_, _≤_, _<_}
+use Prim.Native.Nat.{ℕ, _+_, _*_, _≤_}
 use native.Mathlib.Omega.{arith}
 use borrow.Author.Tests.{leb-true, leb-false, eqb-true, eqb-false}
 use lib.Dec.{eqb, leb}
@@ -17,7 +17,7 @@ use Rattle.reg_ranges.specs.Ranges.{Far}
 use Rattle.several_chips.specs.declared.Member.{Member}
 use Rattle.several_chips.specs.Samples.{samplesIn}
 use Rattle.several_chips.specs.Numbers.{Range, inside, apart, rangesOf, apartFrom, rangesGood, chipsGood, allSound, rangesFit, severalSamplesGood, countFrom, severalRecordSize, severalNumber}
-use Rattle.several_chips.proofs.Memory.{Separate, Ranged, SeparateFrom, AllRanged}
+use Rattle.several_chips.proofs.Memory.{SeparateFrom, AllRanged}
 
 pub record Accepted (m : List ℕ) (ws : List Member) (size : ℕ) (bytes : List ℕ) (room : ℕ) : Type 0 where
   pub one : 1 ≤ length ws

@@ -1,6 +1,6 @@
 -- The chips of a list with other sessions and marks, one by one.
-use mathlib.Core.Path.{_≡_, refl, sym, ap, ap₂, _∙_}
-use mathlib.Core.Bool.{Bool, true, false, cond, _&&_, _||_}
+use mathlib.Core.Path.{_≡_, refl, ap, ap₂, _∙_}
+use mathlib.Core.Bool.{Bool, true, false, _&&_, _||_}
 use mathlib.Core.List.{List, [], _∷_}
 use Prim.Native.Nat.{ℕ, zero, suc, _<_, _≤_}
 use native.Mathlib.Omega.{arith}
@@ -12,7 +12,7 @@ use Rattle.base_bits.proofs.Cases.{and-left, and-right}
 use Rattle.base_chip.specs.declared.Chip.the-variants.{Newer}
 use Rattle.bus_session.specs.declared.Session.{Session}
 use Rattle.bus_session.specs.State.{soundSession}
-use Rattle.bus_session_bytes.specs.Layout.{sessionBytes, areSession, sessionOf}
+use Rattle.bus_session_bytes.specs.Layout.{areSession, sessionOf}
 use Rattle.bus_session_bytes.proofs.Laws.{session-back, bytes-back}
 use Rattle.reg_banks.specs.Banks.{Banks}
 use Rattle.several_chips.specs.declared.Member.{Member}

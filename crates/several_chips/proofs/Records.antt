@@ -10,7 +10,7 @@ use Rattle.read_records.specs.Records.{recordsIn}
 use Rattle.bus_session_bytes.specs.Layout.{sessionOf}
 use Rattle.read_run.specs.Reading.{recordCount}
 use Rattle.several_chips.specs.declared.Member.{Member}
-use Rattle.several_chips.specs.Samples.{Sample, seenBy, allSeenBy}
+use Rattle.several_chips.specs.Samples.{Sample, allSeenBy}
 use Rattle.several_chips.specs.State.{State, chipEvent, stateAfter, recordAt, allAfter, recordsAt, recordsAll, joinedRecords}
 use Rattle.several_chips.specs.Members.{statesOf}
 use Rattle.several_chips.specs.Numbers.{countFrom, severalRecordSize}

@@ -1,12 +1,12 @@
 -- Samples of two bytes, by their place.
 use mathlib.Core.Path.{_≡_, refl, sym, ap, ap₂, _∙_}
-use mathlib.Core.Bool.{Bool, true, not, _&&_}
+use mathlib.Core.Bool.{true, not, _&&_}
 use mathlib.Core.List.{List, [], _∷_}
 use Prim.Native.Nat.{ℕ, zero, suc, _+_, _-_, _*_, _/_, _^_, _<_, _≤_}
 use native.Mathlib.Omega.{arith}
 use borrow.Author.Tests.{leb-true}
 use lib.Dec.{leb}
-use lib.ListN.{length, getD, drop}
+use lib.ListN.{length, getD}
 use Rattle.base_bits.specs.Bits.{bitAt}
 use Rattle.base_bits.proofs.Cases.{and-left, and-right}
 use Rattle.several_chips.specs.Samples.{Sample, samplesIn, sampleGood, allGood}

@@ -7,7 +7,6 @@ use native.Mathlib.Omega.{arith}
 use native.Mathlib.Nat.{add-zero}
 use lib.ListN.{length}
 use lib.Seq.{sets}
-use Rattle.base_bits.proofs.Cases.{each}
 use Rattle.base_chip.specs.declared.Chip.the-variants.{Newer}
 use Rattle.bus_settings.specs.declared.Settings.{Settings}
 use Rattle.bus_session.specs.declared.Event.{Event}

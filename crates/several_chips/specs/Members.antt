@@ -1,6 +1,6 @@
 -- Document 02, Ask 10: a chip of the list has its session, its mark, and its own two ranges of the shared bank memory.
-use Prim.Native.Nat.{ℕ, _+_}
-use mathlib.Core.Bool.{Bool, _&&_, _||_, not}
+use Prim.Native.Nat.{ℕ}
+use mathlib.Core.Bool.{Bool, _&&_, _||_}
 use mathlib.Core.List.{List, [], _∷_, map}
 use lib.Dec.{eqb, leb}
 use Rattle.base_bits.specs.Bits.{bitOf}

@@ -9,7 +9,6 @@ use Rattle.base_numbers.specs.Numbers.{done, badSession, badBank, badSamples, s
 use Rattle.base_chip.specs.declared.Chip.the-variants.{Newer}
 use Rattle.map_format.specs.Format.{countOf}
 use Rattle.map_test.specs.MapTest.{mapNumber}
-use Rattle.bus_session.specs.declared.Port.{Port}
 use Rattle.bus_session_bytes.specs.Layout.{sessionOf}
 use Rattle.read_run.specs.Reading.{recordCount}
 use Rattle.several_chips.specs.declared.Member.{Member}

@@ -1,5 +1,5 @@
 -- Document 02, Ask 10: a sample of several chips is two bytes, the selects and then the three other lines, in their former bits.
-use Prim.Native.Nat.{ℕ, _+_, _-_, _^_, _≤_}
+use Prim.Native.Nat.{ℕ, _+_, _-_, _^_}
 use mathlib.Core.Bool.{Bool, true, not, _&&_}
 use mathlib.Core.List.{List, [], _∷_, map}
 use lib.Bits.{bitOr}

@@ -1,32 +1,30 @@
 -- How far the turns of a call that is not refused have come: what each keeps, as facts about lists.
 use mathlib.Core.Path.{_≡_, refl, sym, ap, ap₂, _∙_, subst}
-use mathlib.Core.Bool.{Bool, true, false, cond, _&&_}
+use mathlib.Core.Bool.{true, false, _&&_}
 use mathlib.Core.List.{List, [], _∷_, _++_, append-assoc, append-nil}
 use Prim.Native.Nat.{ℕ, zero, suc, _+_, _*_, _-_, _/_, _%_, _<_, _≤_}
 use native.Mathlib.Omega.{arith}
 use native.Mathlib.Nat.{zero-add}
 use native.Mathlib.Numerals.{add-one}
-use borrow.Author.Tests.{ltb-true, ltb-false, eqb-true, eqb-false, eq-eqb, ne-eqb, leb-true}
+use borrow.Author.Tests.{ltb-true, ltb-false}
 use lib.Dec.{eqb, ltb, leb}
-use lib.ListN.{length, getD, take, drop, set, length-set, length-append}
-use lib.Seq.{sets, drop-cons, drop-length, drop-nil, drop-set-lt, take-suc-set, take-all, append-snoc, length-sets}
-use Rattle.base_bits.specs.Buffer.{filled}
+use lib.ListN.{length, getD, drop, set, length-set, length-append}
+use lib.Seq.{sets, drop-cons, length-sets}
 use Rattle.base_bits.proofs.Buffer.{sets-append, sets-filled}
-use Rattle.base_bits.proofs.Cases.{yes, no, each, and-left, and-right}
-use Rattle.map_format.specs.Format.{countOf}
+use Rattle.base_bits.proofs.Cases.{each, and-right}
 use Rattle.reg_banks.specs.Banks.{Mapped}
 use Rattle.reg_ranges.specs.Ranges.{placed}
 use Rattle.several_chips.specs.declared.Member.{Member}
 use Rattle.several_chips.specs.declared.Turn.{Turn}
 use Rattle.several_chips.specs.declared.Stepped.{Stepped}
 use Rattle.several_chips.specs.Samples.{Sample, samplesIn, allGood}
-use Rattle.several_chips.specs.State.{State, stateAfter, recordAt, allAfter, recordsAt, runAll, recordsAll, joinedRecords}
+use Rattle.several_chips.specs.State.{State, stateAfter, recordAt, runAll, recordsAll, joinedRecords}
 use Rattle.several_chips.specs.Members.{stateOf, memberWith, statesOf, membersWith, placedAll, soundMember}
-use Rattle.several_chips.specs.Contracts.{sampleAt, turn, turnAfter, stateAfterTurn, turnRecord, Stepping, HasStepped, AllBytes}
-use Rattle.several_chips.specs.Numbers.{allSound, severalSamplesGood, severalNumber, countFrom, severalRecordSize}
-use Rattle.several_chips.specs.Calls.{severalOutcome, doneOf, severalOf}
-use Rattle.several_chips.proofs.Memory.{AllRanged, AllMapped, ranged-at, mapped-set, within, own-banks, placed-for, placed-all-same, all-mapped, mapped-held, length-placed-all}
-use Rattle.several_chips.proofs.Accepted.{Accepted, accepted}
+use Rattle.several_chips.specs.Contracts.{sampleAt, turn, turnAfter, Stepping, HasStepped, AllBytes}
+use Rattle.several_chips.specs.Numbers.{allSound, countFrom, severalRecordSize}
+use Rattle.several_chips.specs.Calls.{severalOutcome, doneOf}
+use Rattle.several_chips.proofs.Memory.{AllMapped, ranged-at, mapped-set, within, own-banks, placed-for, placed-all-same, all-mapped, mapped-held, length-placed-all}
+use Rattle.several_chips.proofs.Accepted.{Accepted}
 use Rattle.several_chips.proofs.Listed.{length-with, with-at, with-set, state-back, with-same, sound-at, sound-set}
 use Rattle.several_chips.proofs.Samples.{sample-count, sample-here, good-at}
 use Rattle.several_chips.proofs.Records.{bytes-append, records-length}

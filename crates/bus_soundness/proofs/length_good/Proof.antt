@@ -1,5 +1,5 @@
 -- `length_good` meets its contract: by the chip.
-use mathlib.Core.Path.{ap, sym, _∙_}
+use mathlib.Core.Path.{ap, sym}
 use Rattle.base_chip.specs.declared.Chip.{Chip}
 use Rattle.bus_session.specs.State.{lengthGood}
 use borrow.Author.Needs.{needs}

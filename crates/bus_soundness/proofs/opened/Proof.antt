@@ -1,5 +1,4 @@
 -- `opened` meets its contract: at rest, with clear settings.
-use mathlib.Core.Path.{ap, _∙_}
 use borrow.Author.Needs.{needs}
 use Rattle.bus_soundness.proofs.opened.Statement.{statement}
 use Rattle.bus_soundness.proofs.opened.Tie as tie

@@ -1,7 +1,7 @@
 -- `take_event` meets its contract: one law for each case of the event.
 use borrow.Author.Needs.{needs}
 use native.Mathlib.Omega.{arith}
-use mathlib.Core.Path.{refl, ap}
+use mathlib.Core.Path.{ap}
 use Rattle.read_records.specs.Records.{recordsIn}
 use Rattle.read_records.proofs.Taking.{room-for, has-bit, took-nothing, took-read, took-write, took-abort, took-end}
 use Rattle.read_records.proofs.take_event.Statement.{statement}

@@ -1,7 +1,7 @@
 -- `writing::effect_at` meets its contract: beyond the banks a register is blank, and takes nothing; else the effect is that of the register's
 -- entry and of its byte in each stage.
 use borrow.Author.Needs.{needs}
-use mathlib.Core.Path.{_≡_, sym, _∙_}
+use mathlib.Core.Path.{_≡_, _∙_}
 use native.Mathlib.Omega.{arith}
 use Rattle.map_format.specs.Format.{countOf, registerAt}
 use Rattle.map_format.proofs.Laws.{entry-beyond}

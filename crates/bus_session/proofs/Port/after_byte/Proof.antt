@@ -1,7 +1,7 @@
 -- `Port::after_byte` meets its contract: the definition's tests in its order.
 use Prim.Native.Nat.{ℕ, _-_}
 use mathlib.Core.Bool.{Bool, true, cond}
-use mathlib.Core.Path.{_≡_, refl, ap, sym, _∙_}
+use mathlib.Core.Path.{_≡_, refl, ap, _∙_}
 use Rattle.base_chip.specs.declared.Chip.{Chip}
 use Rattle.base_bits.proofs.Cases.{yes, no}
 use Rattle.bus_settings.specs.declared.Settings.{Settings}

@@ -8,7 +8,7 @@ use Rattle.base_chip.specs.declared.Chip.{Chip}
 use Rattle.bus_settings.specs.declared.InUse.{InUse}
 use Rattle.bus_session.specs.declared.Phase.{Phase}
 use Rattle.bus_session.specs.declared.Port.{Port}
-use Rattle.bus_session.specs.State.{atLevels, withLevels, resting, starting, isData, mayStall}
+use Rattle.bus_session.specs.State.{atLevels, withLevels, resting, starting, mayStall}
 use Rattle.bus_session.specs.Step.{csbOf, sclkOf, sdioOf, sdoOf, takesBit, withInstructionBit, withDataBit, withBit, stepOf}
 use borrow.Author.Needs.{needs}
 use Rattle.bus_session.proofs.Port.step.Statement.{statement}

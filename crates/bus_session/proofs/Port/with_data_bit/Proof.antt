@@ -1,10 +1,10 @@
 -- `Port::with_data_bit` meets its contract: the eighth bit makes a byte whole, and its value is below 256.
 use Prim.Native.Nat.{ℕ, _+_}
 use mathlib.Core.Bool.{Bool, true, cond}
-use mathlib.Core.Path.{_≡_, refl, ap, sym, _∙_}
+use mathlib.Core.Path.{_≡_, refl, ap, _∙_}
 use native.Mathlib.Omega.{arith}
 use lib.Dec.{ltb}
-use borrow.Author.Tests.{lt-ltb, le-ltb, le-leb, lt-leb, eq-eqb, ne-eqb, leb-true}
+use borrow.Author.Tests.{lt-ltb, le-ltb}
 use Rattle.base_bits.proofs.Cases.{yes, no}
 use Rattle.base_chip.specs.declared.Chip.{Chip}
 use Rattle.bus_settings.specs.declared.Settings.{Settings}

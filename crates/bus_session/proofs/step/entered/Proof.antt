@@ -1,7 +1,7 @@
 -- `entered` meets its contract: by the chip, and on an older one by the top.
-use mathlib.Core.Path.{_≡_, refl, ap, sym, _∙_}
+use mathlib.Core.Path.{ap, sym, _∙_}
 use Rattle.base_chip.specs.declared.Chip.{Chip}
-use borrow.Author.Tests.{lt-ltb, le-ltb, le-leb, lt-leb, eq-eqb, ne-eqb, leb-true}
+use borrow.Author.Tests.{le-leb, lt-leb}
 use Rattle.base_bits.proofs.Cases.{yes, no}
 use Rattle.bus_session.specs.Step.{entered}
 use borrow.Author.Needs.{needs}

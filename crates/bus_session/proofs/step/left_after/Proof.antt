@@ -1,13 +1,12 @@
 -- `left_after` meets its contract: a count falls by one, and is at least 1 before.
-use mathlib.Core.Path.{_≡_, refl, ap, sym, _∙_}
+use mathlib.Core.Path.{_≡_, refl, sym, _∙_}
 use Prim.Native.Nat.{_-_}
 use mathlib.Core.Bool.{true, _&&_}
 use lib.Dec.{leb}
 use native.Mathlib.Omega.{arith}
-use borrow.Author.Tests.{lt-ltb, le-ltb, le-leb, lt-leb, eq-eqb, ne-eqb, leb-true}
+use borrow.Author.Tests.{leb-true}
 use Rattle.base_bits.proofs.Cases.{yes, no}
 use Rattle.base_bits.proofs.Cases.{and-left}
-use Rattle.bus_session.specs.State.{isCounted}
 use borrow.Author.Needs.{needs}
 use Rattle.bus_session.proofs.step.left_after.Statement.{statement}
 use Rattle.bus_session.proofs.step.left_after.Tie as tie

@@ -1,10 +1,9 @@
 -- `runs_out` meets its contract: by the chip, and on an older one by the way that the address goes.
 use Prim.Native.Nat.{ℕ}
-use mathlib.Core.Bool.{Bool, cond, _||_}
+use mathlib.Core.Bool.{_||_}
 use lib.Dec.{eqb}
-use mathlib.Core.Path.{_≡_, refl, ap, sym, _∙_}
+use mathlib.Core.Path.{refl, ap, sym, _∙_}
 use Rattle.base_chip.specs.declared.Chip.{Chip}
-use borrow.Author.Tests.{lt-ltb, le-ltb, le-leb, lt-leb, eq-eqb, ne-eqb, leb-true}
 use Rattle.base_bits.proofs.Cases.{yes, no}
 use Rattle.bus_session.specs.Step.{runsOut}
 use borrow.Author.Needs.{needs}

@@ -1,5 +1,5 @@
 -- `InUse::counting` meets its contract: by the chip.
-use mathlib.Core.Path.{_≡_, refl, ap, sym, _∙_}
+use mathlib.Core.Path.{ap, sym}
 use Rattle.base_chip.specs.declared.Chip.{Chip}
 use Rattle.bus_settings.specs.Settings.{counting}
 use borrow.Author.Needs.{needs}

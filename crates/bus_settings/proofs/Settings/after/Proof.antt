@@ -1,5 +1,5 @@
 -- `Settings::after` meets its contract: by the chip.
-use mathlib.Core.Path.{_≡_, refl, ap, sym, _∙_}
+use mathlib.Core.Path.{ap, sym, _∙_}
 use Rattle.base_chip.specs.declared.Chip.{Chip}
 use Rattle.bus_settings.specs.Settings.{settingsAfter}
 use borrow.Author.Needs.{needs}

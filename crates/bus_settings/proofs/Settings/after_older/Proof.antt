@@ -1,12 +1,9 @@
 -- `Settings::after_older` meets its contract: each branch sets the field that the definition names for its address.
-use mathlib.Core.Path.{_≡_, refl, ap, sym, _∙_}
-use mathlib.Core.Bool.{Bool, _&&_}
-use lib.Dec.{eqb}
+use mathlib.Core.Path.{refl}
 use borrow.Author.Tests.{eq-eqb, ne-eqb}
 use Rattle.base_bits.proofs.Cases.{yes, no}
 use Rattle.bus_settings.specs.declared.Settings.{Settings}
-use Rattle.base_chip.specs.Chip.{partReadsBuffer}
-use Rattle.bus_settings.specs.Settings.{ordered, staged, olderAfter}
+use Rattle.bus_settings.specs.Settings.{olderAfter}
 use borrow.Author.Needs.{needs}
 use Rattle.bus_settings.proofs.Settings.after_older.Statement.{statement}
 use Rattle.bus_settings.proofs.Settings.after_older.Tie as tie

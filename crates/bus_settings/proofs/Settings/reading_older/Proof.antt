@@ -1,5 +1,5 @@
 -- `Settings::reading_older` meets its contract: the flag of the register at its address.
-use mathlib.Core.Path.{_≡_, refl, ap, sym, _∙_}
+use mathlib.Core.Path.{refl}
 use borrow.Author.Tests.{eq-eqb, ne-eqb}
 use Rattle.base_bits.proofs.Cases.{yes, no}
 use Rattle.bus_settings.specs.Settings.{olderReading}

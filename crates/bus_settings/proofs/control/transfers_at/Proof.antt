@@ -1,5 +1,5 @@
 -- `transfers_at` meets its contract: by the chip.
-use mathlib.Core.Path.{_≡_, ap, sym, _∙_}
+use mathlib.Core.Path.{ap, sym}
 use Rattle.base_chip.specs.declared.Chip.{Chip}
 use Rattle.bus_settings.specs.Settings.{transfersAt}
 use borrow.Author.Needs.{needs}

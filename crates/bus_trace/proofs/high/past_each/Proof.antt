@@ -1,8 +1,6 @@
 -- `past_each` meets its contract: each sample passed has CSB high, and leaves its level.
 use Prim.Native.Nat.{_-_}
-use mathlib.Core.Path.{_≡_}
 use native.Mathlib.Omega.{arith}
-use native.Mathlib.Nat.{add-zero}
 use lib.ListN.{length}
 use borrow.Author.Needs.{needs}
 use Rattle.bus_trace.proofs.Resting.{Resting, resting-begun, resting-one, rested-all, rested-low}

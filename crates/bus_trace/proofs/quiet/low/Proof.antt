@@ -1,6 +1,5 @@
 -- `low` meets its contract: a scan on the port's line, in its order.
-use mathlib.Core.Path.{refl, ap, _∙_}
-use native.Mathlib.Omega.{arith}
+use mathlib.Core.Path.{refl}
 use Rattle.bus_trace.specs.Scan.{progress}
 use Rattle.bus_trace.proofs.Progress.{own, line-lt}
 use Rattle.bus_trace.proofs.Onward.{start-standing}

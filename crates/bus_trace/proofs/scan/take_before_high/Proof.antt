@@ -1,9 +1,8 @@
 -- `take_before_high` meets its contract: the rises before CSB is high, and then no sample more.
-use mathlib.Core.Path.{_≡_, sym, _∙_, ap}
-use Prim.Native.Nat.{ℕ, _<_}
+use mathlib.Core.Path.{_≡_, _∙_, ap}
+use Prim.Native.Nat.{ℕ}
 use native.Mathlib.Omega.{arith}
 use borrow.Author.Needs.{needs}
-use Rattle.bus_words.specs.Words.{wordOf}
 use Rattle.bus_words.specs.Lanes.{highsIn, lowsIn, levelIn, risesIn}
 use Rattle.bus_words.proofs.Lanes.{lows-le, lows-full}
 use Rattle.bus_trace.proofs.Onward.{going-begun, rise-inside, took-rise, took-before-high}

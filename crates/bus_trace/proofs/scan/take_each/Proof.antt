@@ -1,6 +1,5 @@
 -- `take_each` meets its contract: each sample changes the level, or gives a bit, or ends the scan.
-use Prim.Native.Nat.{ℕ, _-_}
-use mathlib.Core.Path.{_≡_}
+use Prim.Native.Nat.{_-_}
 use native.Mathlib.Omega.{arith}
 use lib.ListN.{length}
 use Rattle.bus_trace.specs.Scan.{progress}

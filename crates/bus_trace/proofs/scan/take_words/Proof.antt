@@ -1,6 +1,6 @@
 -- `take_words` meets its contract: each word gives its bits, and the scan goes on, or ends at a rise or where CSB is high.
 use Prim.Native.Nat.{ℕ, _+_, _-_, _≤_}
-use mathlib.Core.Path.{_≡_, sym, _∙_, ap}
+use mathlib.Core.Path.{sym, _∙_, ap}
 use native.Mathlib.Omega.{arith}
 use lib.ListN.{length}
 use borrow.Author.Needs.{needs}

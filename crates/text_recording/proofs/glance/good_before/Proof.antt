@@ -1,6 +1,6 @@
 -- `good_before` meets its contract: the samples passed, with those counted of the rest, are the whole count.
 use Prim.Native.Nat.{_+_, _-_, _≤_}
-use mathlib.Core.Path.{_≡_, refl}
+use mathlib.Core.Path.{_≡_}
 use native.Mathlib.Omega.{arith}
 use lib.ListN.{length, drop}
 use Rattle.text_recording.specs.Glance.{goodBefore}
