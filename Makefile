@@ -42,7 +42,7 @@ build:
 	@.ci/told rt check busread couplingnut
 	@$(call staticlib,couplingnut)
 	@$(call staticlib,text_recording)
-	@$(COMPILE) -o target/host/bussend host/bussend.c host/message.c target/staticlib/libcouplingnut.a
+	@$(COMPILE) -o target/host/bussend -Ihost host/bussend/*.c host/message.c target/staticlib/libcouplingnut.a
 	@$(COMPILE) -o target/host/busread host/busread.c host/message.c target/staticlib/libtext_recording.a
 
 # The library for hosts, static and shared: the proved calls, and the words for their numbers (host/message.c). Linking stops at text

@@ -56,7 +56,8 @@ fn every_reference_exists() {
 
 #[test]
 fn a_wrong_reference_is_seen() {
-    let found = references("see `base_bits/specs/Bits.antt:merged`, `x`, and `base_bits/src/lib.rt`");
+    let found =
+        references("see `base_bits/specs/Bits.antt:merged`, `x`, and `base_bits/src/lib.rt`");
     assert_eq!(found.len(), 2);
     let text = fs::read_to_string(path_of("base_bits/specs/Bits.antt")).unwrap();
     assert!(has_word(&text, "merged"));

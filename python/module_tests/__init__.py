@@ -1,0 +1,1 @@
+"""Tests of couplingnut.py, and through it of the shared library."""
