@@ -123,15 +123,15 @@ fn configures_early(single_write: bool, ascending: bool, start: u16, data: &[u8]
     false
 }
 
-// How many samples a run of so many bytes takes.
-pub fn sample_count(single_instruction: bool, count: usize) -> usize
-    requires { ⌜ count ≤ 1000 ⌝ }
-    ensures { λ r. ⌜ r ≡ cond «single_instruction» (3 + 48 * count) (35 + 16 * count) ⌝ }
+// How many samples so many runs take, of so many bytes in all.
+pub fn sample_count(single_instruction: bool, runs: usize, bytes: usize) -> usize
+    requires { ⌜ (runs ≤ 64) × (bytes ≤ 64000) ⌝ }
+    ensures { λ r. ⌜ r ≡ cond «single_instruction» (3 * runs + 48 * bytes) (35 * runs + 16 * bytes) ⌝ }
 {
     if single_instruction {
-        3 + 48 * count
+        3 * runs + 48 * bytes
     } else {
-        35 + 16 * count
+        35 * runs + 16 * bytes
     }
 }
 
@@ -156,7 +156,7 @@ pub fn number_of(chip: Chip, order: Order, data: &[u8], room: usize) -> u8
     if configures_early(single_write, goes_up(chip, order), order.start as u16, data) {
         return BAD_SINGLE;
     }
-    if room < sample_count(single_instruction, order.count as usize) {
+    if room < sample_count(single_instruction, 1, order.count as usize) {
         return SHORT_OUT;
     }
     DONE

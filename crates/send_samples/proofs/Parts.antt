@@ -5,7 +5,7 @@ use mathlib.Core.List.{List, [], _++_, append-assoc}
 use Prim.Native.Nat.{ℕ, zero, suc, _+_, _-_, _*_, _<_, _≤_}
 use native.Mathlib.Omega.{arith}
 use native.Mathlib.Numerals.{add-one}
-use lib.ListN.{length, getD, drop, getD-replicate, drop-of-length-le}
+use lib.ListN.{length, length-append, getD, drop, getD-replicate, drop-of-length-le}
 use lib.Seq.{drop-cons}
 use Rattle.base_bits.specs.Bits.{bitAt}
 use Rattle.base_bits.proofs.Putting.{Splits}
@@ -17,33 +17,26 @@ use Rattle.base_chip.specs.declared.Chip.the-variants.{Newer, Older}
 use Rattle.send_samples.specs.declared.RunSettings.{RunSettings}
 use Rattle.send_order.specs.Order.{Order, order, isRead, runFrom, sentOf, sentBytes}
 use Rattle.send_order.specs.Samples.{bitsOf, instructionOf, lengthBits, lengthAndAddress, byteBits, runBits, orderBits, clocked, samplesOf}
-use Rattle.send_samples.specs.Run.{orderRun, byteSamples, runSamples, closingSamples, wholeSamples}
-use Rattle.send_order.proofs.Laws.{clocked-append, length-clocked, length-byte-bits, length-samples, length-sent}
+use Rattle.send_samples.specs.Run.{orderRun, sentByte, ownSamples, byteSamples, runSamples, closingSamples, wholeSamples}
+use Rattle.send_order.proofs.Laws.{clocked-append, length-bits, length-clocked, length-samples, length-sent}
 
--- the samples of a byte: with single instruction its own instruction goes before it
+-- the samples of a byte: its own instruction, if it has one, goes before it
 module _ (r : RunSettings) (a v : ℕ) where
-  pub byte-single : r .«single_instruction» ≡ true → byteSamples r a v ≡ clocked (bitsOf (r .«lsb_first») 16 (instructionOf (r .read) a)) ++ clocked (bitsOf (r .«lsb_first») 8 v)
+  pub byte-parts : byteSamples r a v ≡ ownSamples r a ++ clocked (bitsOf (r .«lsb_first») 8 v)
   unfolding byteBits
-  byte-single t = rw t (clocked-append (bitsOf (r .«lsb_first») 16 (instructionOf (r .read) a)) (bitsOf (r .«lsb_first») 8 v))
+  byte-parts = clocked-append (cond (r .«single_instruction») (bitsOf (r .«lsb_first») 16 (instructionOf (r .read) a)) []) (bitsOf (r .«lsb_first») 8 v)
 
-  pub byte-streaming : r .«single_instruction» ≡ false → byteSamples r a v ≡ clocked (bitsOf (r .«lsb_first») 8 v)
-  unfolding byteBits
-  byte-streaming t = rw t
-
-  pub length-single : r .«single_instruction» ≡ true → length (byteSamples r a v) ≡ 48
-  length-single t = length-clocked _ ∙ rw (length-byte-bits, t)
-
-  pub length-streaming : r .«single_instruction» ≡ false → length (byteSamples r a v) ≡ 16
-  length-streaming t = length-clocked _ ∙ rw (length-byte-bits, t)
+  pub length-parts : length (byteSamples r a v) ≡ length (ownSamples r a) + 16
+  length-parts = ap length byte-parts ∙ simp (length-append, length-clocked, length-bits)
 
 -- what goes out in the data bits of byte i
-sent-at : (read : Bool) (k i : ℕ) (bytes : List ℕ) → i < k → cond read 0 (getD bytes i 0) ≡ getD (sentOf read k bytes) i 0
+sent-at : (read : Bool) (k i : ℕ) (bytes : List ℕ) → i < k → sentByte read bytes i ≡ getD (sentOf read k bytes) i 0
 sent-at true k i bytes h = sym (getD-replicate k i 0 0 h)
 sent-at false k i bytes h = refl
 
 -- the samples of the bytes from i on are those of byte i, and of the bytes after it from the next address on
 pub next-byte : (r : RunSettings) (a k i : ℕ) (bytes : List ℕ) → length bytes ≡ cond (r .read) 0 k → i < k
-    → Splits (runSamples r a (drop i (sentOf (r .read) k bytes))) (byteSamples r a (cond (r .read) 0 (getD bytes i 0)))
+    → Splits (runSamples r a (drop i (sentOf (r .read) k bytes))) (byteSamples r a (sentByte (r .read) bytes i))
     (runSamples r (nextAddress (r .ascending) a) (drop (i + 1) (sentOf (r .read) k bytes)))
 unfolding runBits runFrom
 next-byte r a k i bytes l h =

@@ -1,7 +1,8 @@
 -- What the code hands on: how a run goes, and the samples of its parts.
 use Prim.Native.Nat.{ℕ}
-use mathlib.Core.Bool.{cond}
+use mathlib.Core.Bool.{Bool, cond}
 use mathlib.Core.List.{List, [], _∷_, _++_}
+use lib.ListN.{getD}
 use Rattle.base_chip.specs.declared.Chip.{Chip}
 use Rattle.send_samples.specs.declared.RunSettings.{RunSettings}
 use Rattle.send_order.specs.Order.{Order, isRead, lsbFirst, goesUp, isSingle, runFrom}
@@ -14,6 +15,14 @@ orderRun c o = record { read = isRead o; «lsb_first» = lsbFirst o; ascending =
 -- 0x00, and but for single instruction the instruction before all bytes, by its bits 14 to 0
 abbrev pub openingSamples : RunSettings → ℕ → List ℕ
 openingSamples r x = 0x00 ∷ clocked (cond (r .«single_instruction») [] (bitsOf (r .«lsb_first») 16 (instructionOf (r .read) x)))
+
+-- what goes out in the data bits of byte i
+abbrev pub sentByte : Bool → List ℕ → ℕ → ℕ
+sentByte read bytes i = cond read 0 (getD bytes i 0)
+
+-- the instruction of one byte: only with single instruction it has its own
+abbrev pub ownSamples : RunSettings → ℕ → List ℕ
+ownSamples r a = clocked (cond (r .«single_instruction») (bitsOf (r .«lsb_first») 16 (instructionOf (r .read) a)) [])
 
 -- the samples of one byte
 abbrev pub byteSamples : RunSettings → ℕ → ℕ → List ℕ

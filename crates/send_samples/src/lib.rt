@@ -11,6 +11,7 @@ mod older;
 mod samples;
 
 use base_bits::bit_at;
+use base_card::CARD;
 use base_chip::Chip;
 use base_numbers::DONE;
 pub use older::send_older;
@@ -67,7 +68,8 @@ pub fn send(
     };
     let number = number_of(Chip::Newer, order, data, out.len());
     if number == DONE {
-        let samples = put_samples(order, data, out);
+        let card = CARD;
+        let samples = put_samples(&card, order, data, out);
         return Sent {
             number: DONE,
             count: samples,

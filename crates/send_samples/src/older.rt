@@ -14,6 +14,7 @@ ghost use Rattle.send_order.specs.Samples.{lengthBits, samplesOf};
 ghost use Rattle.send_samples.specs.Calls.{sending, sendOf};
 use crate::Sent;
 use crate::samples::put_all;
+use base_card::CARD;
 use base_chip::Chip;
 use base_chip::Part;
 use base_numbers::DONE;
@@ -45,7 +46,8 @@ fn put_older(order: Order, data: &[u8], out: &mut [u8]) -> usize
         count: order.count,
     };
     let lower = length_bits(order.count as usize) * 0x2000 + order.start as u16;
-    put_all(on_newer, lower, data, out)
+    let card = CARD;
+    put_all(&card, on_newer, lower, data, out)
 }
 
 // Puts the samples of an order to an older chip at the start of the outgoing buffer. A refusal leaves the buffer as it was. The caller

@@ -3,17 +3,16 @@ ghost use mathlib.Core.Path.{_≡_};
 ghost use mathlib.Core.Bool.{cond, false};
 ghost use mathlib.Core.List.{[]};
 ghost use Prim.Native.Nat.{_+_, _<_, _≤_};
-ghost use lib.ListN.{length, getD};
+ghost use lib.ListN.{length};
 ghost use Rattle.base_bits.specs.Buffer.{Put};
 ghost use Rattle.base_card.specs.Card.{IsCard};
 ghost use Rattle.base_chip.specs.declared.Chip.the-variants.{Newer};
 ghost use Rattle.send_order.specs.Order.{withData, isRead, sentOf, sentBytes};
 ghost use Rattle.send_order.specs.Samples.{highFirst, bitsOf, clocked, instructionOf, samplesOf};
 ghost use Rattle.send_order.specs.Number.{sendNumber};
-ghost use Rattle.send_samples.specs.Run.{orderRun, openingSamples, byteSamples, runSamples, closingSamples, wholeSamples};
+ghost use Rattle.send_samples.specs.Run.{orderRun, sentByte, openingSamples, ownSamples, byteSamples, runSamples, closingSamples, wholeSamples};
 use crate::RunSettings;
 use crate::run_of;
-use base_card::CARD;
 use base_card::in_order;
 use bus_settings::next_address;
 use send_order::Order;
@@ -83,32 +82,43 @@ fn instruction(read: bool, lower: u16) -> u16
     if read { lower + 0x8000 } else { lower }
 }
 
-// Puts the samples of one byte, with its own instruction before it in single instruction.
+// What goes out in the data bits of byte i.
+fn sent_byte(read: bool, data: &[u8], i: usize) -> u8
+    requires { ⌜ (read ≡ false → i < length (now «data»)) ⌝ }
+    ensures { λ r. ⌜ r ≡ sentByte read (now («data» .entry)) i ⌝ }
+{
+    if read { 0 } else { data[i] }
+}
+
+// Puts the instruction of one byte, if it has its own.
+fn put_own(card: &[u8; 16], run: RunSettings, address: u16, out: &mut [u8], at: usize) -> usize
+    requires { ⌜ (address < 0x8000) × (at + length (ownSamples run address) ≤ length (now out)) ⌝ }
+    requires { ⌜ IsCard (now card) ⌝ }
+    ensures { λ r. ⌜ Put (now (out .entry)) at (ownSamples run address) r (now (out .exit)) ⌝ }
+{
+    if run.single_instruction {
+        return put_sixteen(card, run.lsb_first, instruction(run.read, address), out, at);
+    }
+    at
+}
+
+// Puts the samples of byte i. What goes out in it is read after its instruction is put: read before that, it would take a register more.
 fn put_byte(
     card: &[u8; 16],
     run: RunSettings,
     address: u16,
-    byte: u8,
+    data: &[u8],
+    i: usize,
     out: &mut [u8],
     at: usize,
 ) -> usize
-    requires { ⌜ (address < 0x8000) × (at + length (byteSamples run address byte) ≤ length (now out)) ⌝ }
+    requires { ⌜ (address < 0x8000) × (run .read ≡ false → i < length (now «data»)) ⌝ }
+    requires { ⌜ at + length (byteSamples run address (sentByte (run .read) (now «data») i)) ≤ length (now out) ⌝ }
     requires { ⌜ IsCard (now card) ⌝ }
-    ensures { λ r. ⌜ Put (now (out .entry)) at (byteSamples run address byte) r (now (out .exit)) ⌝ }
+    ensures { λ r. ⌜ Put (now (out .entry)) at (byteSamples run address (sentByte (run .read) (now («data» .entry)) i)) r (now (out .exit)) ⌝ }
 {
-    if run.single_instruction {
-        let n = put_sixteen(card, run.lsb_first, instruction(run.read, address), out, at);
-        return put_eight(card, run.lsb_first, byte, out, n);
-    }
-    put_eight(card, run.lsb_first, byte, out, at)
-}
-
-// What goes out in the data bits of byte i.
-fn sent_byte(read: bool, data: &[u8], i: usize) -> u8
-    requires { ⌜ (read ≡ false → i < length (now «data»)) ⌝ }
-    ensures { λ r. ⌜ r ≡ cond read 0 (getD (now («data» .entry)) i 0) ⌝ }
-{
-    if read { 0 } else { data[i] }
+    let n = put_own(card, run, address, out, at);
+    put_eight(card, run.lsb_first, sent_byte(run.read, data, i), out, n)
 }
 
 // Puts the samples of all bytes of a run, from the start address on.
@@ -131,7 +141,7 @@ fn put_run(
     let mut n = at;
     let mut i: usize = 0;
     while i < count {
-        n = put_byte(card, run, address, sent_byte(run.read, data, i), out, n);
+        n = put_byte(card, run, address, data, i, out, n);
         address = next_address(run.ascending, address);
         i += 1;
     }
@@ -162,21 +172,21 @@ fn put_closing(out: &mut [u8], at: usize) -> usize
 }
 
 // Puts all samples of a run at the start of the buffer, with bits 14 to 0 of the instruction before it.
-pub fn put_all(order: Order, lower: u16, data: &[u8], out: &mut [u8]) -> usize
+pub fn put_all(card: &[u8; 16], order: Order, lower: u16, data: &[u8], out: &mut [u8]) -> usize
     requires { ⌜ (order .settings ≤ 7) × (order .start < 0x8000) × (lower < 0x8000) ⌝ }
     requires { ⌜ length (now «data») ≡ cond (isRead (withData order [])) 0 (order .count) ⌝ }
     requires { ⌜ length (wholeSamples (orderRun Newer (withData order [])) lower (order .start) (sentBytes (withData order (now «data»)))) ≤ length
         (now out) ⌝ }
+    requires { ⌜ IsCard (now card) ⌝ }
     ensures { λ r.
         ⌜ Put (now (out .entry)) 0
         (wholeSamples (orderRun Newer (withData order [])) lower (order .start) (sentBytes (withData order (now («data» .entry))))) r
         (now (out .exit)) ⌝ }
 {
-    let card = CARD;
     let run = run_of(order);
-    let first = put_opening(&card, run, lower, out);
+    let first = put_opening(card, run, lower, out);
     let last = put_run(
-        &card,
+        card,
         run,
         order.start as u16,
         order.count as usize,
@@ -188,9 +198,10 @@ pub fn put_all(order: Order, lower: u16, data: &[u8], out: &mut [u8]) -> usize
 }
 
 // Puts all samples of an order to a newer chip that is not refused, at the start of the buffer.
-pub fn put_samples(order: Order, data: &[u8], out: &mut [u8]) -> usize
+pub fn put_samples(card: &[u8; 16], order: Order, data: &[u8], out: &mut [u8]) -> usize
     requires { ⌜ sendNumber Newer (withData order (now «data»)) (length (now out)) ≡ 0 ⌝ }
+    requires { ⌜ IsCard (now card) ⌝ }
     ensures { λ r. ⌜ Put (now (out .entry)) 0 (samplesOf Newer (withData order (now («data» .entry)))) r (now (out .exit)) ⌝ }
 {
-    put_all(order, order.start as u16, data, out)
+    put_all(card, order, order.start as u16, data, out)
 }

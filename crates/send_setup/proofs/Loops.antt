@@ -1,106 +1,122 @@
 -- The walks over the orders of a list: what is done, with what is still to go, is the whole.
 use mathlib.Core.Path.{_≡_, refl, ap, sym, _∙_}
-use mathlib.Core.Bool.{Bool, true, false, cond, false≢true}
+use mathlib.Core.Bool.{Bool, true, false, cond}
 use mathlib.Core.List.{List, _∷_}
 use Prim.Native.Nat.{ℕ, _+_, _-_, _*_, _≤_, _<_}
 use native.Mathlib.Omega.{arith}
 use native.Mathlib.Nat.{suc-ne-zero}
-use lib.Dec.{eqb}
-use borrow.Author.Tests.{ne-eqb}
 use lib.ListN.{length, drop, length-drop, length-append}
+use Rattle.base_bits.specs.Bits.{bitAt}
 use Rattle.base_bits.specs.Buffer.{Put}
 use Rattle.base_bits.specs.Bytes.{wordAt}
+use Rattle.base_bits.specs.Tests.{unless}
+use Rattle.base_bits.proofs.Cases.{no}
 use Rattle.base_bits.proofs.Putting.{Putting, begun, Splits, next-fits, further, ended}
 use Rattle.base_chip.specs.declared.Chip.the-variants.{Newer}
 use Rattle.send_order.specs.Order.{Order}
 use Rattle.send_order.specs.Samples.{samplesOf, allSamples}
 use Rattle.send_order.specs.Number.{sendNumber}
-use Rattle.send_order.proofs.Laws.{admitted, most-samples, room-enough}
-use Rattle.base_bits.specs.Tests.{every, unless}
-use Rattle.send_setup.specs.Form.{wholeTests, listGood}
-use Rattle.send_setup.specs.Look.{placeNumber, LookAfter}
+use Rattle.send_order.proofs.Laws.{admitted, length-counted, room-enough}
+use Rattle.send_setup.specs.Form.{firstListed, listGood}
+use Rattle.send_setup.specs.Look.{endAt, LookAfter}
 use Rattle.send_setup.specs.Calls.{mostOrders, ordersOf, ownNumber, firstBad, setupNumber}
-use Rattle.send_setup.proofs.Walk.{Testing, too-many, tested-on, tested-all, ToGo, all-to-go, ordersFrom, orderAt, orders-split, orders-end, Next, next-order, none-to-go}
-use Rattle.send_setup.proofs.Numbers.{held, first-bad, first-good, none-bad, passed}
+use Rattle.send_setup.proofs.Walk.{Ends, Testing, no-end, tested-on, tested-all, ToGo, all-to-go, ordersFrom, orderAt, orders-split, orders-end, Next, next-order, none-to-go}
+use Rattle.send_setup.proofs.Numbers.{first-bad, first-good, none-bad, passed}
 
 -- ---- a look over the list: what is found, with what is left, is the whole
 
-pub record Looking (settings : ℕ) (l : List ℕ) (n left total : ℕ) : Type 0 where
+-- how many samples so many orders take, of so many bytes in all
+abbrev pub samplesIn : ℕ → ℕ → ℕ → ℕ
+samplesIn settings orders bytes = cond (bitAt settings 2) (3 * orders + 48 * bytes) (35 * orders + 16 * bytes)
+
+-- one order more
+one-more : (settings orders bytes k : ℕ)
+    → samplesIn settings orders bytes + cond (bitAt settings 2) (3 + 48 * k) (35 + 16 * k) ≡ samplesIn settings (orders + 1) (bytes + k)
+one-more settings orders bytes k = go (bitAt settings 2)
+  where
+    go : (b : Bool)
+        → cond b (3 * orders + 48 * bytes) (35 * orders + 16 * bytes) + cond b (3 + 48 * k) (35 + 16 * k)
+        ≡ cond b (3 * (orders + 1) + 48 * (bytes + k)) (35 * (orders + 1) + 16 * (bytes + k))
+    go true = omega arith
+    go false = omega arith
+
+no-samples : (settings : ℕ) → samplesIn settings 0 0 ≡ 0
+no-samples settings = go (bitAt settings 2)
+  where
+    go : (b : Bool) → cond b (3 * 0 + 48 * 0) (35 * 0 + 16 * 0) ≡ 0
+    go true = refl
+    go false = refl
+
+pub record Looking (settings : ℕ) (l : List ℕ) (n left bytes : ℕ) : Type 0 where
   pub form : Testing l n left (listGood mostOrders l)
   pub first : firstBad (ordersFrom settings l n left) ≡ firstBad (ordersOf settings l)
-  pub sum : total + length (allSamples Newer (ordersFrom settings l n left)) ≡ length (allSamples Newer (ordersOf settings l))
-  pub most : total + 48003 * left ≤ 3072192
+  pub sum : samplesIn settings (64 - left) bytes + length (allSamples Newer (ordersFrom settings l n left)) ≡ length (allSamples Newer (ordersOf settings l))
+  pub few : left ≤ 64
+  pub most : bytes + 1000 * left ≤ 64000
 
 pub look-from : (settings : ℕ) (l : List ℕ) → Looking settings l 0 mostOrders 0
 unfolding ordersOf
-look-from settings l = record { form = record { within = omega arith; rest = refl }; first = refl; sum = omega arith; most = omega arith }
+look-from settings l = record {
+  form = record { within = omega arith; rest = refl };
+  first = refl;
+  sum = omega (arith, no-samples settings);
+  few = omega arith;
+  most = omega arith;
+}
 
--- where the number is 0 an order may stand, stands whole, and is not bad
-pub record Fine (settings : ℕ) (l : List ℕ) (n left : ℕ) : Type 0 where
-  pub some : left ≡ 0 → ⊥
-  pub whole : every (wholeTests (drop n l)) ≡ true
-  pub own : ownNumber (orderAt settings l n) ≡ 0
-
-pub fine : (settings : ℕ) (l : List ℕ) (n left : ℕ) → placeNumber settings (drop n l) left ≡ 0 → Fine settings l n left
-fine settings l n left z = go (eqb left 0) refl z
-  where
-    go : (b : Bool) → eqb left 0 ≡ b → cond b 14 (unless (every (wholeTests (drop n l))) 14 (ownNumber (orderAt settings l n))) ≡ 0 → Fine settings l n left
-    go true e h = absurd (suc-ne-zero 13 h)
-    go false e h =
-        let t = held (every (wholeTests (drop n l))) 13 _ h in
-        record { some = λ k. false≢true (sym e ∙ ap (λ (m : ℕ). eqb m 0) k); whole = t .0; own = t .1 }
-
-module _ {settings : ℕ} {l : List ℕ} {n left total : ℕ} (s : Looking settings l n left total) where
+module _ {settings : ℕ} {l : List ℕ} {n left bytes : ℕ} (s : Looking settings l n left bytes) where
   module _ (h : n < length l) where
-    split : (left ≡ 0 → ⊥) → ordersFrom settings l n left ≡ orderAt settings l n ∷ ordersFrom settings l (n + 2 + wordAt l n) (left - 1)
-    split z = orders-split settings l n left z h
+    -- no order stands whole there, or none may
+    pub looked-14 : (more : ℕ) → 0 ≡ endAt l n left → LookAfter settings l 14 more
+    looked-14 more e = record { first = no _ (sym (no-end (s .form) h e)) refl; all = λ k. absurd (suc-ne-zero 13 k) }
 
-    module _ (f : Fine settings l n left) (taken : ℕ) (t : taken ≡ length (samplesOf Newer (orderAt settings l n))) where
-      pub taken-few : taken ≤ 48003
-      taken-few = omega (arith, t, most-samples Newer (orderAt settings l n) (admitted Newer _ _ (f .own) .count))
+    module _ {end : ℕ} (f : Ends l n left end) where
+      split : ordersFrom settings l n left ≡ orderAt settings l n ∷ ordersFrom settings l (n + 2 + wordAt l n) (left - 1)
+      split = orders-split settings l n left (f .some) h
 
-      pub look-on : Looking settings l (n + 2 + wordAt l n) (left - 1) (total + taken)
-      unfolding allSamples
-      look-on =
-          let more = ordersFrom settings l (n + 2 + wordAt l n) (left - 1) in
-          let both : length (allSamples Newer (ordersFrom settings l n left)) ≡ length (samplesOf Newer (orderAt settings l n)) + length (allSamples Newer more) =
-          ap (λ (os : List Order). length (allSamples Newer os)) (split (f .some)) ∙ length-append (samplesOf Newer (orderAt settings l n)) (allSamples Newer more) in
-          record {
-            form = tested-on (s .form) (f .some) h (f .whole);
-            first = sym (ap firstBad (split (f .some)) ∙ first-good (orderAt settings l n) more (f .own)) ∙ s .first;
-            sum = omega (arith, t, both, s .sum);
-            most = omega (arith, taken-few, s .most, f .some);
-          }
+      module _ (own : ownNumber (orderAt settings l n) ≡ 0) (k : ℕ) (t : k ≡ firstListed (drop n l) .count) where
+        pub count-few : k ≤ 1000
+        count-few = omega (arith, t, admitted Newer _ _ own .count .most)
 
-    -- a number that is not 0: that of the first bad order, where what is left is good
-    pub looked-bad : (bad number more : ℕ) → bad ≡ placeNumber settings (drop n l) left → (bad ≡ 0 → ⊥)
-        → number ≡ unless (listGood left (drop n l)) 14 bad
-        → LookAfter settings l number more
-    looked-bad bad number more e z q = go (listGood left (drop n l)) refl q
-      where
-        good : listGood left (drop n l) ≡ true → listGood mostOrders l ≡ true
-        good g = sym (s .form .rest) ∙ g
+        pub look-on : Looking settings l end (left - 1) (bytes + k)
+        unfolding allSamples
+        look-on =
+            let more = ordersFrom settings l (n + 2 + wordAt l n) (left - 1) in
+            let both : length (allSamples Newer (ordersFrom settings l n left)) ≡ length (samplesOf Newer (orderAt settings l n)) + length (allSamples Newer more) =
+            ap (λ (os : List Order). length (allSamples Newer os)) split ∙ length-append (samplesOf Newer (orderAt settings l n)) (allSamples Newer more) in
+            let orders : 64 - left + 1 ≡ 64 - (left - 1) = omega (arith, s .few, f .some) in
+            let taken : samplesIn settings (64 - left) bytes + length (samplesOf Newer (orderAt settings l n)) ≡ samplesIn settings (64 - (left - 1)) (bytes + k) =
+            rw (length-counted Newer (orderAt settings l n) (admitted Newer _ _ own .count), ← t, ← orders) (one-more settings (64 - left) bytes k) in
+            rw (f .place) (record {
+              form = tested-on (s .form) (f .some) h (f .whole);
+              first = sym (ap firstBad split ∙ first-good (orderAt settings l n) more own) ∙ s .first;
+              sum = omega (arith, taken, both, s .sum);
+              few = omega (arith, s .few);
+              most = omega (arith, count-few, s .most, f .some);
+            })
 
-        go : (b : Bool) → listGood left (drop n l) ≡ b → number ≡ unless b 14 bad → LookAfter settings l number more
-        go true g r =
-            let some : left ≡ 0 → ⊥ = λ k. false≢true (too-many (s .form) h k ∙ good g) in
-            let here : ToGo settings l n (ordersFrom settings l n left) = record { left = left; good = g; orders = refl } in
-            let there = next-order here h in
-            let own : placeNumber settings (drop n l) left ≡ ownNumber (orderAt settings l n) = rw (ne-eqb left 0 some, there .whole) in
-            let worst = first-bad (orderAt settings l n) (there .others) (λ k. z (e ∙ own ∙ k)) in
-            record {
-              first = rw (good g) (r ∙ e ∙ own ∙ worst ∙ ap firstBad (sym (there .split)) ∙ s .first);
-              all = λ k. absurd (z (sym r ∙ k));
-            }
-        go false g r = record { first = rw (sym (s .form .rest) ∙ g) r; all = λ k. absurd (suc-ne-zero 13 (sym r ∙ k)) }
+      -- a bad order: the first, where what is left is good
+      pub looked-bad : (bad number more : ℕ) → bad ≡ ownNumber (orderAt settings l n) → (bad ≡ 0 → ⊥)
+          → number ≡ unless (listGood left (drop n l)) 14 bad
+          → LookAfter settings l number more
+      looked-bad bad number more e z q = go (listGood left (drop n l)) refl q
+        where
+          worst : ownNumber (orderAt settings l n) ≡ firstBad (ordersOf settings l)
+          worst =
+              let more = ordersFrom settings l (n + 2 + wordAt l n) (left - 1) in
+              first-bad (orderAt settings l n) more (λ k. z (e ∙ k)) ∙ ap firstBad (sym split) ∙ s .first
 
-  pub looked-all : length l ≤ n → LookAfter settings l 0 total
+          go : (b : Bool) → listGood left (drop n l) ≡ b → number ≡ unless b 14 bad → LookAfter settings l number more
+          go true g r = record { first = rw (sym (s .form .rest) ∙ g) (r ∙ e ∙ worst); all = λ k. absurd (z (sym r ∙ k)) }
+          go false g r = record { first = rw (sym (s .form .rest) ∙ g) r; all = λ k. absurd (suc-ne-zero 13 (sym r ∙ k)) }
+
+  pub looked-all : length l ≤ n → (total : ℕ) → total ≡ samplesIn settings (64 - left) bytes → LookAfter settings l 0 total
   unfolding firstBad allSamples
-  looked-all h =
+  looked-all h total t =
       let none = orders-end settings l n left h in
       record {
         first = rw (← tested-all (s .form) h) (ap firstBad (sym none) ∙ s .first);
-        all = λ k. omega (arith, ap (λ (os : List Order). length (allSamples Newer os)) none, s .sum);
+        all = λ k. omega (arith, t, ap (λ (os : List Order). length (allSamples Newer os)) none, s .sum);
       }
 
 -- ---- all orders sent: what is put, with the orders still to go, is the whole

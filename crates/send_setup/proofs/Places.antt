@@ -1,5 +1,5 @@
 -- An order at a place of a list: what its tests say there, and its parts.
-use mathlib.Core.Path.{_≡_, refl, ap, _∙_}
+use mathlib.Core.Path.{_≡_, refl, ap, sym, _∙_}
 use mathlib.Core.Bool.{Bool, true, false, _&&_}
 use mathlib.Core.List.{List, [], _∷_}
 use Prim.Native.Nat.{ℕ, _+_, _-_, _≤_, _<_}
@@ -8,7 +8,7 @@ use native.Mathlib.Nat.{add-zero, add-assoc}
 use lib.ListN.{length, take, drop, length-drop}
 use lib.Seq.{getD-drop, drop-drop}
 use lib.Dec.{eqb, leb}
-use borrow.Author.Tests.{leb-true, lt-leb}
+use borrow.Author.Tests.{leb-true, leb-false, le-leb, lt-leb}
 use Rattle.base_bits.specs.Bytes.{byteAt, wordAt}
 use Rattle.base_bits.specs.Tests.{every}
 use Rattle.base_bits.proofs.Cases.{every-true, joined-every}
@@ -35,12 +35,20 @@ stands l n h =
     let b = leb-true (2 + wordAt (drop n l) 0) (length (drop n l)) (t .1 .0) in
     record { least = omega arith; within = omega (arith, length-drop n l) }
 
+-- it is within what is left of the list where it ends within the list
+ends-within : (l : List ℕ) (n : ℕ) → leb (2 + wordAt l n) (length l - n) ≡ leb (n + 2 + wordAt l n) (length l)
+ends-within l n = go (leb (n + 2 + wordAt l n) (length l)) refl
+  where
+    go : (b : Bool) → leb (n + 2 + wordAt l n) (length l) ≡ b → leb (2 + wordAt l n) (length l - n) ≡ b
+    go true e = let t = leb-true (n + 2 + wordAt l n) (length l) e in le-leb (2 + wordAt l n) (length l - n) (omega arith)
+    go false e = let t = leb-false (n + 2 + wordAt l n) (length l) e in lt-leb (2 + wordAt l n) (length l - n) (omega arith)
+
 -- its tests, read there
 pub tests-here : (l : List ℕ) (n : ℕ)
-    → (leb 6 (wordAt l n) && leb (2 + wordAt l n) (length l - n) && eqb (byteAt l (n + 2)) 1) ≡ every (wholeTests (drop n l))
+    → (leb 6 (wordAt l n) && leb (n + 2 + wordAt l n) (length l) && eqb (byteAt l (n + 2)) 1) ≡ every (wholeTests (drop n l))
 unfolding every
 tests-here l n =
-    rw (length-here l n, length-drop n l, getD-drop n l 2 0)
+    rw (length-here l n, length-drop n l, getD-drop n l 2 0, ends-within l n)
     (joined-every (leb 6 (wordAt l n)) (_ ∷ _ ∷ []))
 
 -- fewer than eight bytes hold no order
@@ -53,9 +61,13 @@ too-short l n h = rw (length-here l n, length-drop n l) (go (leb 6 (wordAt l n))
     go false e = refl
 
 -- the parts of the order there, but for its data
+pub count-here : (l : List ℕ) (n : ℕ) → wordAt l (n + 6) ≡ firstListed (drop n l) .count
+count-here l n = sym (word-drop l n 6)
+
 pub order-here : (settings : ℕ) (l : List ℕ) (n : ℕ)
-    → order (byteAt l (n + 3)) settings (wordAt l (n + 4)) (wordAt l (n + 6)) (firstListed (drop n l) .bytes) ≡ withSettings settings (firstListed (drop n l))
-order-here settings l n = rw (word-drop l n 4, word-drop l n 6, getD-drop n l 3 0)
+    → let x = firstListed (drop n l) in
+    order (byteAt l (n + 3)) settings (wordAt l (n + 4)) (x .count) (x .bytes) ≡ withSettings settings x
+order-here settings l n = rw (word-drop l n 4, getD-drop n l 3 0)
 
 -- and with its data, which ends where the order does
 pub data-here : (o : declared.Order) (settings : ℕ) (l : List ℕ) (n end : ℕ) → end ≡ n + 2 + wordAt l n

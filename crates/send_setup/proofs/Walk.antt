@@ -1,19 +1,34 @@
 -- A list walked order by order: to test it, and to do something with each of its orders.
 use mathlib.Core.Path.{_≡_, refl, ap, sym, _∙_}
-use mathlib.Core.Bool.{Bool, true, false, _&&_}
+use mathlib.Core.Bool.{Bool, true, false, cond, _&&_}
 use mathlib.Core.List.{List, [], _∷_, map}
 use Prim.Native.Nat.{ℕ, zero, suc, _+_, _-_, _≤_, _<_}
 use native.Mathlib.Omega.{arith}
 use lib.ListN.{length, drop, length-drop, drop-of-length-le}
 use lib.Dec.{eqb}
-use borrow.Author.Tests.{ne-eqb, eqb-true}
+use borrow.Author.Tests.{ne-eqb, eqb-true, eqb-false}
 use Rattle.base_bits.specs.Bytes.{wordAt}
 use Rattle.base_bits.specs.Tests.{every}
 use Rattle.base_bits.proofs.Cases.{and-left, and-right}
 use Rattle.send_order.specs.Order.{Order}
 use Rattle.send_setup.specs.Form.{wholeTests, firstListed, afterFirst, withSettings, listGood, listedOf}
 use Rattle.send_setup.specs.Calls.{mostOrders, ordersOf}
+use Rattle.send_setup.specs.Look.{endAt}
 use Rattle.send_setup.proofs.Places.{Stands, stands, after-here}
+
+-- what the place after an order tells, where it is not 0
+pub record Ends (l : List ℕ) (n left end : ℕ) : Type 0 where
+  pub some : left ≡ 0 → ⊥
+  pub whole : every (wholeTests (drop n l)) ≡ true
+  pub place : end ≡ n + 2 + wordAt l n
+
+pub ends : (l : List ℕ) (n left end : ℕ) → end ≡ endAt l n left → (end ≡ 0 → ⊥) → Ends l n left end
+ends l n left end e z = go (eqb left 0) (every (wholeTests (drop n l))) refl refl e
+  where
+    go : (b t : Bool) → eqb left 0 ≡ b → every (wholeTests (drop n l)) ≡ t → end ≡ cond b 0 (cond t (n + 2 + wordAt l n) 0) → Ends l n left end
+    go true t f w q = absurd (z q)
+    go false false f w q = absurd (z q)
+    go false true f w q = record { some = eqb-false left 0 f; whole = w; place = q }
 
 -- what is left of the list decides whether it is good
 pub record Testing (l : List ℕ) (n left : ℕ) (good : Bool) : Type 0 where
@@ -36,6 +51,15 @@ module _ {l : List ℕ} {n left : ℕ} {good : Bool} (w : Testing l n left good)
 
   pub not-whole : (left ≡ 0 → ⊥) → n < length l → every (wholeTests (drop n l)) ≡ false → false ≡ good
   not-whole z h t = sym (one-more z h ∙ rw t) ∙ w .rest
+
+  -- where no order ends, the list is not good
+  pub no-end : n < length l → 0 ≡ endAt l n left → false ≡ good
+  no-end h e = go (eqb left 0) (every (wholeTests (drop n l))) refl refl e
+    where
+      go : (b t : Bool) → eqb left 0 ≡ b → every (wholeTests (drop n l)) ≡ t → 0 ≡ cond b 0 (cond t (n + 2 + wordAt l n) 0) → false ≡ good
+      go true t f w q = too-many h (eqb-true left 0 f)
+      go false false f w q = not-whole (eqb-false left 0 f) h w
+      go false true f w q = absurd (omega arith)
 
   pub tested-on : (left ≡ 0 → ⊥) → n < length l → every (wholeTests (drop n l)) ≡ true → Testing l (n + 2 + wordAt l n) (left - 1) good
   tested-on z h t = record { within = stands l n t .within; rest = sym (one-more z h ∙ rw (t, after-here l n)) ∙ w .rest }

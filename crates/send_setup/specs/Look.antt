@@ -1,20 +1,21 @@
 -- What the code hands on: what a look over a list finds.
-use Prim.Native.Nat.{ℕ}
+use Prim.Native.Nat.{ℕ, _+_}
 use mathlib.Core.Path.{_≡_}
 use mathlib.Core.Bool.{cond}
 use mathlib.Core.List.{List}
-use lib.ListN.{length}
+use lib.ListN.{length, drop}
 use lib.Dec.{eqb}
+use Rattle.base_bits.specs.Bytes.{wordAt}
 use Rattle.base_bits.specs.Tests.{every, unless}
 use Rattle.base_numbers.specs.Numbers.{badList}
 use Rattle.base_chip.specs.declared.Chip.the-variants.{Newer}
 use Rattle.send_order.specs.Samples.{allSamples}
-use Rattle.send_setup.specs.Form.{wholeTests, firstListed, withSettings, listGood}
-use Rattle.send_setup.specs.Calls.{mostOrders, ordersOf, ownNumber, firstBad}
+use Rattle.send_setup.specs.Form.{wholeTests, listGood}
+use Rattle.send_setup.specs.Calls.{mostOrders, ordersOf, firstBad}
 
--- the number where so much of the list is left: 14 where no order may stand, or none stands whole, and else that of the first order
-abbrev pub placeNumber : ℕ → List ℕ → ℕ → ℕ
-placeNumber settings l left = cond (eqb left 0) badList (unless (every (wholeTests l)) badList (ownNumber (withSettings settings (firstListed l))))
+-- the place after the order at a place, where so many may stand: 0 where none may, or none stands whole
+abbrev pub endAt : List ℕ → ℕ → ℕ → ℕ
+endAt l n left = cond (eqb left 0) 0 (cond (every (wholeTests (drop n l))) (n + 2 + wordAt l n) 0)
 
 -- the number but for 15 and 11, and where it is 0 the total
 pub record LookAfter (settings : ℕ) (list : List ℕ) (number total : ℕ) : Type 0 where

@@ -1,22 +1,24 @@
 // A whole setup in one call: the orders of a list, each sent after the one before it.
 ghost use mathlib.Core.Path.{_≡_};
 ghost use mathlib.Core.Bool.{true};
-ghost use Prim.Native.Nat.{_≤_};
+ghost use Prim.Native.Nat.{_+_, _≤_};
 ghost use lib.ListN.{length, drop};
 ghost use Rattle.base_bits.specs.Buffer.{Put};
+ghost use Rattle.base_bits.specs.Bytes.{wordAt};
 ghost use Rattle.base_bits.specs.Tests.{every, unless};
 ghost use Rattle.base_numbers.specs.Numbers.{badList};
+ghost use Rattle.base_card.specs.Card.{IsCard};
 ghost use Rattle.base_chip.specs.declared.Chip.the-variants.{Newer};
 ghost use Rattle.send_order.specs.Samples.{samplesOf, allSamples};
 ghost use Rattle.send_order.specs.Number.{sendNumber};
 ghost use Rattle.send_samples.specs.Calls.{sending};
 ghost use Rattle.send_setup.specs.Form.{wholeTests, firstListed, withSettings, listGood};
 ghost use Rattle.send_setup.specs.Calls.{ordersOf, ownNumber, setupNumber, setupOf};
-ghost use Rattle.send_setup.specs.Look.{placeNumber, LookAfter};
+ghost use Rattle.send_setup.specs.Look.{LookAfter};
 
 mod list;
 
-use base_bits::bit_at;
+use base_card::CARD;
 use base_chip::Chip;
 use base_numbers::BAD_LIST;
 use base_numbers::DONE;
@@ -27,8 +29,9 @@ pub use list::LEAST_LENGTH;
 use list::MOST_ORDERS;
 pub use list::VERSION;
 use list::after;
+use list::count_at;
+use list::end_at;
 use list::order_at;
-use list::stands_at;
 use send_order::number_of;
 use send_order::sample_count;
 use send_samples::Sent;
@@ -40,39 +43,14 @@ const MOST_SAMPLES: usize = 65536;
 // More than an order can need, whatever its count says: the compiler then drops the test for it.
 const ROOM_FOR_ANY: usize = 0x40_0000;
 
-// The number of the order at a place of the list, by itself.
-fn number_at(settings: u64, list: &[u8], at: usize) -> u8
-    requires { ⌜ every (wholeTests (drop at (now list))) ≡ true ⌝ }
+// The number of the order at a place of the list, by itself, with the place after it.
+fn number_at(settings: u64, list: &[u8], at: usize, end: usize) -> u8
+    requires { ⌜ (every (wholeTests (drop at (now list))) ≡ true) × (end ≡ at + 2 + wordAt (now list) at) ⌝ }
     ensures { λ r. ⌜ r ≡ ownNumber (withSettings settings (firstListed (drop at (now (list .entry))))) ⌝ }
 {
     let from = at + DATA_AT;
-    let end = after(list, at);
     let order = order_at(settings, list, at);
     number_of(Chip::Newer, order, &list[from..end], ROOM_FOR_ANY)
-}
-
-// The number at a place with so many orders left: 14 where no order may stand, or none stands whole, and else that of the order.
-fn place_number(settings: u64, list: &[u8], at: usize, left: u8) -> u8
-    requires { ⌜ at ≤ length (now list) ⌝ }
-    ensures { λ r. ⌜ r ≡ placeNumber settings (drop at (now (list .entry))) left ⌝ }
-{
-    if left == 0 {
-        return BAD_LIST;
-    }
-    if stands_at(list, at) {
-        return number_at(settings, list, at);
-    }
-    BAD_LIST
-}
-
-// How many samples the order at a place takes.
-fn samples_at(settings: u64, list: &[u8], at: usize) -> usize
-    requires { ⌜ every (wholeTests (drop at (now list))) ≡ true ⌝ }
-    requires { ⌜ ownNumber (withSettings settings (firstListed (drop at (now list)))) ≡ 0 ⌝ }
-    ensures { λ r. ⌜ r ≡ length (samplesOf Newer (withSettings settings (firstListed (drop at (now (list .entry)))))) ⌝ }
-{
-    let order = order_at(settings, list, at);
-    sample_count(bit_at(order.settings as u8, 2), order.count as usize)
 }
 
 // Whether whole orders stand from a place on, up to so many, and nothing after them.
@@ -83,15 +61,12 @@ fn good_from(list: &[u8], from: usize, most: u8) -> bool
     let mut at = from;
     let mut left = most;
     while at < list.len() {
-        if left == 0 {
+        let end = end_at(list, at, left);
+        if end == 0 {
             return false;
         }
-        if stands_at(list, at) {
-            at = after(list, at);
-            left -= 1;
-        } else {
-            return false;
-        }
+        at = end;
+        left -= 1;
     }
     true
 }
@@ -119,25 +94,37 @@ fn stopped(bad: u8, list: &[u8], at: usize, left: u8) -> Looked
     }
 }
 
-// Looks over the list in one walk, up to the first bad order, and changes nothing.
+// Looks over the list in one walk, up to the first bad order, and changes nothing. Single instruction is read from the settings number
+// as it is: with an empty list that may be any.
 fn look_over(settings: u64, list: &[u8]) -> Looked
     ensures { λ r. ⌜ LookAfter settings (now (list .entry)) (r .number) (r .total) ⌝ }
 {
     let mut at: usize = 0;
     let mut left: u8 = MOST_ORDERS;
-    let mut total: usize = 0;
+    let mut bytes: usize = 0;
     while at < list.len() {
-        let bad = place_number(settings, list, at, left);
+        let end = end_at(list, at, left);
+        if end == 0 {
+            return Looked {
+                number: BAD_LIST,
+                total: 0,
+            };
+        }
+        let bad = number_at(settings, list, at, end);
         if bad != DONE {
             return stopped(bad, list, at, left);
         }
-        total += samples_at(settings, list, at);
-        at = after(list, at);
+        bytes += count_at(list, at);
+        at = end;
         left -= 1;
     }
     Looked {
         number: DONE,
-        total: total,
+        total: sample_count(
+            (settings >> 2) % 2 == 1,
+            (MOST_ORDERS - left) as usize,
+            bytes,
+        ),
     }
 }
 
@@ -159,28 +146,37 @@ fn setup_number(settings: u64, list: &[u8], room: usize) -> u8
 }
 
 // Puts the samples of the order at a place of the list into the part of the buffer from n on, and gives the place after them.
-fn send_at(settings: u64, list: &[u8], at: usize, out: &mut [u8], n: usize) -> usize
+fn send_at(
+    card: &[u8; 16],
+    settings: u64,
+    list: &[u8],
+    at: usize,
+    out: &mut [u8],
+    n: usize,
+) -> usize
     requires { ⌜ (every (wholeTests (drop at (now list))) ≡ true) × (n ≤ length (now out)) ⌝ }
     requires { ⌜ sendNumber Newer (withSettings settings (firstListed (drop at (now list)))) (length (drop n (now out))) ≡ 0 ⌝ }
+    requires { ⌜ IsCard (now card) ⌝ }
     ensures { λ r. ⌜ Put (now (out .entry)) n (samplesOf Newer (withSettings settings (firstListed (drop at (now (list .entry)))))) r (now (out .exit)) ⌝ }
 {
     let from = at + DATA_AT;
     let end = after(list, at);
     let order = order_at(settings, list, at);
-    n + put_samples(order, &list[from..end], &mut out[n..])
+    n + put_samples(card, order, &list[from..end], &mut out[n..])
 }
 
-// Sends all orders of a list that is not refused, one after the other. The next place is read before anything is put: read after that,
-// it would have to wait.
+// Sends all orders of a list that is not refused, one after the other. The card is built once for all of them. The next place is read
+// before anything is put: read after that, it would have to wait.
 fn send_all(settings: u64, list: &[u8], out: &mut [u8]) -> usize
     requires { ⌜ setupNumber settings (now list) (length (now out)) ≡ 0 ⌝ }
     ensures { λ r. ⌜ Put (now (out .entry)) 0 (allSamples Newer (ordersOf settings (now (list .entry)))) r (now (out .exit)) ⌝ }
 {
+    let card = CARD;
     let mut at: usize = 0;
     let mut n: usize = 0;
     while at < list.len() {
         let next = after(list, at);
-        n = send_at(settings, list, at, out, n);
+        n = send_at(&card, settings, list, at, out, n);
         at = next;
     }
     n

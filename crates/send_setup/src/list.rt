@@ -7,6 +7,7 @@ ghost use Rattle.base_bits.specs.Bytes.{wordAt};
 ghost use Rattle.base_bits.specs.Tests.{every};
 ghost use Rattle.send_order.specs.Order.{withData};
 ghost use Rattle.send_setup.specs.Form.{wholeTests, firstListed, withSettings};
+ghost use Rattle.send_setup.specs.Look.{endAt};
 use send_order::Order;
 
 // The most orders that a list may have.
@@ -33,17 +34,24 @@ fn word_at(list: &[u8], at: usize) -> usize
     list[at] as usize * 256 + list[at + 1] as usize
 }
 
-// Whether an order stands whole at a place.
-pub fn stands_at(list: &[u8], at: usize) -> bool
+// The place after the order at a place, where so many orders may stand: 0 where none may, or none stands whole. It is worked out before
+// the tests: a walk waits for it, and for none of them.
+pub fn end_at(list: &[u8], at: usize, left: u8) -> usize
     requires { ⌜ at ≤ length (now list) ⌝ }
-    ensures { λ r. ⌜ r ≡ every (wholeTests (drop at (now (list .entry)))) ⌝ }
+    ensures { λ r. ⌜ r ≡ endAt (now (list .entry)) at left ⌝ }
 {
-    let left = list.len() - at;
-    if left < LEAST_SIZE {
-        return false;
+    if left == 0 {
+        return 0;
+    }
+    if list.len() - at < LEAST_SIZE {
+        return 0;
     }
     let size = word_at(list, at);
-    (LEAST_LENGTH <= size) & (LENGTH_SIZE + size <= left) & (list[at + 2] == VERSION)
+    let end = at + LENGTH_SIZE + size;
+    if (LEAST_LENGTH <= size) & (end <= list.len()) & (list[at + 2] == VERSION) {
+        return end;
+    }
+    0
 }
 
 // The place after the order that stands at a place.
@@ -52,6 +60,14 @@ pub fn after(list: &[u8], at: usize) -> usize
     ensures { λ r. ⌜ r ≡ at + 2 + wordAt (now (list .entry)) at ⌝ }
 {
     at + LENGTH_SIZE + word_at(list, at)
+}
+
+// The count of the order that stands at a place.
+pub fn count_at(list: &[u8], at: usize) -> usize
+    requires { ⌜ every (wholeTests (drop at (now list))) ≡ true ⌝ }
+    ensures { λ r. ⌜ r ≡ firstListed (drop at (now (list .entry))) .count ⌝ }
+{
+    word_at(list, at + 6)
 }
 
 // The order that stands at a place, but for its data.
@@ -63,6 +79,6 @@ pub fn order_at(settings: u64, list: &[u8], at: usize) -> Order
         direction: list[at + 3] as u64,
         settings: settings,
         start: word_at(list, at + 4) as u64,
-        count: word_at(list, at + 6) as u64,
+        count: count_at(list, at) as u64,
     }
 }

@@ -119,7 +119,7 @@ returns-5 : tie.Need-returns-5
 returns-5 c = number-10 _ (asked (start9 (passed (c .before)))) _ (within (passed (c .before))) (sym (early (c .before)) ∙ c .if5 .taken)
 
 sample-count-requires : tie.Need-sample-count-requires
-sample-count-requires c κs = counted (asked (start9 (passed (c .before)))) (within (passed (c .before)) .count) .most
+sample-count-requires c κs = (omega arith, omega (arith, counted (asked (start9 (passed (c .before)))) (within (passed (c .before)) .count) .most))
 
 returns-6 : tie.Need-returns-6
 returns-6 c =

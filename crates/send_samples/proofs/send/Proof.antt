@@ -1,6 +1,7 @@
 -- `send` meets its contract: the number decides, and the samples are put only where it is 0.
 use mathlib.Core.Path.{sym, _∙_}
 use borrow.Author.Needs.{needs}
+use Rattle.base_card.proofs.Entries.{is-card}
 use Rattle.base_chip.specs.declared.Chip.the-variants.{Newer}
 use Rattle.send_order.specs.Order.{Order, order}
 use Rattle.send_samples.proofs.Answer.{done, refused}
@@ -14,14 +15,14 @@ number-of-requires : tie.Need-number-of-requires
 number-of-requires c κs = search needs
 
 put-samples-requires : tie.Need-put-samples-requires
-put-samples-requires c κs = sym (c .before .before .number-of .ensures) ∙ c .before .if1 .taken
+put-samples-requires c κs = (sym (c .before .before .before .number-of .ensures) ∙ c .before .before .if1 .taken, is-card)
 
 same-length : tie.Need-same-length
 same-length c = search needs
 
 returns : tie.Need-returns
 returns c =
-    let p = c .before .before .before .before in
+    let p = c .before .before .before .before .before in
     done Newer (asked (p .before .before .before .before)) _ _ _ _ (p .before .number-of .ensures) (p .if1 .taken) (c .before .before .put-samples .ensures)
 
 returns-2 : tie.Need-returns-2

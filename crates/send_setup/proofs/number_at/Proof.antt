@@ -12,34 +12,31 @@ use Rattle.send_setup.proofs.number_at.Tie as tie
 
 -- the order stands whole
 there : (c : tie.Start) → Stands (c .args .list .now) (c .args .at)
-there c = stands (c .args .list .now) (c .args .at) (c .pre)
+there c = stands (c .args .list .now) (c .args .at) (c .pre .0)
 
 add-from : tie.Need-add-from
 add-from c = let t = there (c .before) in omega (arith, c .before .good)
 
-after-requires : tie.Need-after-requires
-after-requires c κs = search needs
-
 order-at-requires : tie.Need-order-at-requires
-order-at-requires c κs = search needs
+order-at-requires c κs = c .before .pre .0
 
 sub-number-of : tie.Need-sub-number-of
-sub-number-of c = let t = there (c .before .before .before) in omega (arith, c .before .after .ensures)
+sub-number-of c = let t = there (c .before .before) in omega (arith, c .before .before .pre .1)
 
 part-number-of-start : tie.Need-part-number-of-start
-part-number-of-start c = let t = there (c .before .before .before) in omega (arith, c .before .after .ensures)
+part-number-of-start c = let t = there (c .before .before) in omega (arith, c .before .before .pre .1)
 
 part-number-of-end : tie.Need-part-number-of-end
-part-number-of-end c = let t = there (c .before .before .before) in omega (arith, c .before .after .ensures)
+part-number-of-end c = let t = there (c .before .before) in omega (arith, c .before .before .pre .1)
 
 number-of-requires : tie.Need-number-of-requires
 number-of-requires c κs = search needs
 
 returns : tie.Need-returns
 returns c =
-    let s = c .before .before .before .before .before in
+    let s = c .before .before .before .before in
     let o = c .before .before .order-at in
-    let here = data-here (o .result) (s .args .settings) (s .args .list .now) (s .args .at) _ (c .before .before .before .after .ensures) (o .ensures) in
+    let here = data-here (o .result) (s .args .settings) (s .args .list .now) (s .args .at) _ (s .pre .1) (o .ensures) in
     c .number-of .ensures ∙ ap (λ (order : Order). sendNumber Newer order 0x400000) here ∙ number-alone Newer _ 0x400000 (omega arith)
 
 pub number-at-spec : {M : Type 1} → statement M
@@ -47,7 +44,6 @@ number-at-spec =
     tie.close
     (tie.spec
     add-from
-    after-requires
     order-at-requires
     sub-number-of
     part-number-of-start

@@ -61,9 +61,11 @@ put-samples-requires : tie.Need-put-samples-requires
 put-samples-requires c κs =
     let s = c .before .before .before .before .before .before in
     let part = take (length (s .args .out .now) - s .args .n) (drop (s .args .n) (s .args .out .now)) in
+    let number =
     ap (λ (o : Order). sendNumber Newer o (length part)) (same-order (c .before .before))
     ∙ ap (λ (l : List ℕ). sendNumber Newer (orderAt (s .args .settings) (s .args .list .now) (s .args .at)) (length l)) (rest-part (s .args .out .now) (s .args .n))
-    ∙ s .pre .1
+    ∙ s .pre .1 .0 in
+    (number, s .pre .1 .1)
 
 -- where the function starts
 abbrev start : tie.After-slice-known2 → tie.Start
@@ -75,18 +77,18 @@ put : (c : tie.After-slice-known2)
     Put (s .args .out .now) (s .args .n) (samplesOf Newer (orderAt (s .args .settings) (s .args .list .now) (s .args .at)))
     (s .args .n + c .before .before .put-samples .result)
     (take (s .args .n) (s .args .out .now)
-    ++ (c .before .before .put-samples .last .1 .1 .0 ++ drop (length (s .args .out .now) - s .args .n) (drop (s .args .n) (s .args .out .now))))
+    ++ (c .before .before .put-samples .last .1 .1 .1 .0 ++ drop (length (s .args .out .now) - s .args .n) (drop (s .args .n) (s .args .out .now))))
 put c =
     let s = start c in
     let part = take (length (s .args .out .now) - s .args .n) (drop (s .args .n) (s .args .out .now)) in
-    part-put _ (s .args .out .now) (s .args .n) _ _ (s .pre .0 .1) (admitted Newer _ _ (s .pre .1) .enough)
-    (subst (λ (o : Order). Put part 0 (samplesOf Newer o) (c .before .before .put-samples .result) (c .before .before .put-samples .last .1 .1 .0))
+    part-put _ (s .args .out .now) (s .args .n) _ _ (s .pre .0 .1) (admitted Newer _ _ (s .pre .1 .0) .enough)
+    (subst (λ (o : Order). Put part 0 (samplesOf Newer o) (c .before .before .put-samples .result) (c .before .before .put-samples .last .1 .1 .1 .0))
     (same-order (c .before .before .before .before .before)) (c .before .before .put-samples .ensures))
 
 add-result : tie.Need-add-result
 add-result c =
     let s = start c in
-    omega (arith, put c .next-place, admitted Newer _ _ (s .pre .1) .enough, length-drop (s .args .n) (s .args .out .now), s .pre .0 .1, s .good)
+    omega (arith, put c .next-place, admitted Newer _ _ (s .pre .1 .0) .enough, length-drop (s .args .n) (s .args .out .now), s .pre .0 .1, s .good)
 
 same-length : tie.Need-same-length
 same-length c = search needs

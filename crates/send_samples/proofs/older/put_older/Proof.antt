@@ -5,6 +5,7 @@ use Prim.Native.Nat.{ℕ, _+_, _*_}
 use native.Mathlib.Omega.{arith}
 use borrow.Author.Needs.{needs}
 use Rattle.base_bits.specs.Buffer.{Put}
+use Rattle.base_card.proofs.Entries.{is-card}
 use Rattle.send_order.specs.Order.{Order, withData}
 use Rattle.send_order.specs.Samples.{lengthBits}
 use Rattle.send_order.proofs.Laws.{length-bits-few}
@@ -15,8 +16,8 @@ use Rattle.send_samples.proofs.older.put_older.Tie as tie
 abbrev asked : tie.Start → Order
 asked c = withData (c .args .order) (c .args .«data» .now)
 
-mul-t6 : tie.Need-mul-t6
-mul-t6 c = search needs
+mul-t7 : tie.Need-mul-t7
+mul-t7 c = search needs
 
 length-bits-requires : tie.Need-length-bits-requires
 length-bits-requires c κs = search needs
@@ -44,11 +45,11 @@ lower c = ap (λ (l : ℕ). l * 0x2000 + start c .args .order .start) (c .length
 
 put-all-requires : tie.Need-put-all-requires
 put-all-requires c κs =
-    let b = c .before .before in
+    let b = c .before .before .before in
     let s = start b in
     let few = length-bits-few (s .args .order .count) in (
       (omega (arith, s .pre .0 .0), omega (arith, s .pre .0 .1), omega (arith, b .length-bits .ensures, few, s .pre .0 .1)),
-      (s .pre .1 .0, omega (arith, length-older (asked s) _ (s .pre .0 .0) (lower b) (s .pre .1 .0), s .pre .1 .1)),
+      (s .pre .1 .0, (omega (arith, length-older (asked s) _ (s .pre .0 .0) (lower b) (s .pre .1 .0), s .pre .1 .1), is-card)),
     )
 
 same-length : tie.Need-same-length
@@ -56,17 +57,17 @@ same-length c = search needs
 
 returns : tie.Need-returns
 returns c = λ chip older.
-    let b = c .before .before .before .before .before in
+    let b = c .before .before .before .before .before .before in
     let s = start b in
     let put = c .before .before .put-all in
-    subst (λ (xs : List ℕ). Put (s .args .out .now) 0 xs (put .result) (put .last .1 .1 .1 .0))
+    subst (λ (xs : List ℕ). Put (s .args .out .now) 0 xs (put .result) (put .last .1 .1 .1 .1 .0))
     (older-samples (asked s) _ (s .pre .0 .0) (lower b) chip older) (put .ensures)
 
 pub put-older-spec : {M : Type 1} → statement M
 put-older-spec =
     tie.close
     (tie.spec
-    mul-t6
+    mul-t7
     length-bits-requires
     mul-lower
     cast-lower

@@ -25,15 +25,13 @@ loop-holds c =
     let pre = c .before .before .pre in
     (omega arith, pre .0, begun _ _ _ (pre .1 .1 .0))
 
-sent-byte-requires : tie.Need-sent-byte-requires Inv-loop μ-loop
-sent-byte-requires c κs = λ t. omega (arith, rw t at (c .before .before .before .before .pre .1 .0))
-
 put-byte-requires : tie.Need-put-byte-requires Inv-loop μ-loop
 put-byte-requires c κs =
-    let p = c .before .before .before in
+    let p = c .before .before in
     let s = p .before .before .before in
-    let turn = next-byte (s .args .run) (p .loop .address) (s .args .count) (p .loop .i) (s .args .«data» .now) (s .pre .1 .0) (c .before .before .loop-test .taken) in
-    rw (c .before .sent-byte .ensures) ((p .loop .inv .1, next-fits (p .loop .inv .2) turn), s .pre .1 .1 .1)
+    let h = c .before .loop-test .taken in
+    let turn = next-byte (s .args .run) (p .loop .address) (s .args .count) (p .loop .i) (s .args .«data» .now) (s .pre .1 .0) h in
+    ((p .loop .inv .1, λ t. omega (arith, h, rw t at (s .pre .1 .0))), (next-fits (p .loop .inv .2) turn, s .pre .1 .1 .1))
 
 next-address-requires : tie.Need-next-address-requires Inv-loop μ-loop
 next-address-requires c κs = search needs
@@ -47,11 +45,11 @@ loop-less c = omega arith
 loop-again : tie.Need-loop-again Inv-loop μ-loop
 loop-again c =
     let b = c .before .before .before in
-    let p = b .before .before .before .before in
+    let p = b .before .before .before in
     let s = p .before .before .before in
-    let turn = next-byte (s .args .run) (p .loop .address) (s .args .count) (p .loop .i) (s .args .«data» .now) (s .pre .1 .0) (b .before .before .before .loop-test .taken) in
+    let turn = next-byte (s .args .run) (p .loop .address) (s .args .count) (p .loop .i) (s .args .«data» .now) (s .pre .1 .0) (b .before .before .loop-test .taken) in
     rw (c .next-address .ensures)
-    (omega arith, next-lt (s .args .run .ascending) (p .loop .address), further (p .loop .inv .2) turn (rw (b .before .before .sent-byte .ensures) at (b .put-byte .ensures)))
+    (omega arith, next-lt (s .args .run .ascending) (p .loop .address), further (p .loop .inv .2) turn (b .put-byte .ensures))
 
 same-length : tie.Need-same-length Inv-loop μ-loop
 same-length c = c .before .loop .inv .2 .same
@@ -69,7 +67,6 @@ put-run-spec =
     Inv-loop
     μ-loop
     loop-holds
-    sent-byte-requires
     put-byte-requires
     next-address-requires
     add-i

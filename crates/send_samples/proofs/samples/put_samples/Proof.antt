@@ -19,7 +19,7 @@ abbrev asked : tie.Start → Order
 asked c = withData (c .args .order) (c .args .«data» .now)
 
 taken : (c : tie.Start) → Admitted Newer (asked c) (length (c .args .out .now))
-taken c = admitted Newer (asked c) _ (c .pre)
+taken c = admitted Newer (asked c) _ (c .pre .0)
 
 -- the samples of its run
 same : (c : tie.Start)
@@ -34,7 +34,7 @@ put-all-requires : tie.Need-put-all-requires
 put-all-requires c κs =
     let s = c .before .before .before .before in
     let t = taken s in
-    ((t .settings, omega (arith, t .start), omega (arith, t .start)), (t .count .data-length, omega (arith, ap length (same s), t .enough)))
+    ((t .settings, omega (arith, t .start), omega (arith, t .start)), (t .count .data-length, (omega (arith, ap length (same s), t .enough), s .pre .1)))
 
 same-length : tie.Need-same-length
 same-length c = search needs
@@ -43,7 +43,7 @@ returns : tie.Need-returns
 returns c =
     let s = c .before .before .before .before .before .before .before in
     let put = c .before .before .put-all in
-    subst (λ (xs : List ℕ). Put (s .args .out .now) 0 xs (put .result) (put .last .1 .1 .1 .0)) (same s) (put .ensures)
+    subst (λ (xs : List ℕ). Put (s .args .out .now) 0 xs (put .result) (put .last .1 .1 .1 .1 .0)) (same s) (put .ensures)
 
 pub put-samples-spec : {M : Type 1} → statement M
 put-samples-spec =

@@ -24,16 +24,13 @@ add-word-at c = let t = there (c .before .before) in omega (arith, c .before .be
 word-at-requires : tie.Need-word-at-requires
 word-at-requires c κs = let t = there (c .before .before) in omega arith
 
-add-word-at-2 : tie.Need-add-word-at-2
-add-word-at-2 c = let t = there (c .before .before .before) in omega (arith, c .before .before .before .good)
-
-word-at-requires-2 : tie.Need-word-at-requires-2
-word-at-requires-2 c κs = let t = there (c .before .before .before) in omega arith
+count-at-requires : tie.Need-count-at-requires
+count-at-requires c κs = c .before .before .before .pre
 
 returns : tie.Need-returns
 returns c =
     let s = c .before .before .before .before in
-    rw (c .word-at2 .ensures, c .before .word-at .ensures) (order-here (s .args .settings) (s .args .list .now) (s .args .at))
+    rw (c .count-at .ensures, c .before .word-at .ensures) (order-here (s .args .settings) (s .args .list .now) (s .args .at))
 
 pub order-at-spec : {M : Type 1} → statement M
 order-at-spec =
@@ -44,6 +41,5 @@ order-at-spec =
     cast-t7
     add-word-at
     word-at-requires
-    add-word-at-2
-    word-at-requires-2
+    count-at-requires
     returns)
