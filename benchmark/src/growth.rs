@@ -27,7 +27,7 @@ pub fn measure(counts: bool) -> String {
 fn reads() -> String {
     let sizes = [4, 64, 1 << 10, 16 << 10, 64 << 10].map(|size| size * KIBIBYTE);
     let map = inputs::map(SMALL_MAP);
-    let samples = inputs::dense(0, sizes[sizes.len() - 1]);
+    let samples = inputs::dense(0, 0, sizes[sizes.len() - 1]);
     let mut space = Space::new(SMALL_MAP, 2 * SAMPLES + 4);
     let times = least(ROUNDS, &sizes, |&size| {
         for call in samples[..size].chunks(SAMPLES) {
@@ -79,7 +79,7 @@ pub fn sigrok() -> String {
     if !found.is_ok_and(|status| status.success()) {
         return "sigrok-cli is not installed: not compared.".into();
     }
-    let samples = inputs::dense(0, MEBIBYTE);
+    let samples = inputs::dense(0, 0, MEBIBYTE);
     let raw = Recording::samples_only("dense-samples", &samples);
     let mut command = Command::new("sigrok-cli");
     command.args(["-I", "binary:numchannels=8:samplerate=1000000", "-i"]).arg(&raw.path);

@@ -1,4 +1,5 @@
 //! What is read, sent and tested: maps and recordings, the same in every run.
+//! Of each kind of recording there are as many as one asks for, by number.
 
 use couplingnut_tests::chip::{sent, sent_older, Chip};
 use couplingnut_tests::generate::maps::{good_entries, map_of};
@@ -11,6 +12,11 @@ const CSB: u8 = 1;
 /// A run may descend from here by as many registers as the longest frame has
 /// and stay clear of the control registers.
 const FIRST_START: usize = 0x0020;
+
+/// Chance for one kind of recording, another for each of their numbers.
+fn chance(kind: u64, number: u64) -> Random {
+    Random::new(kind + (number << 8))
+}
 
 pub fn map(count: usize) -> Vec<u8> {
     map_of(&good_entries(&mut Random::new(count as u64), count))
@@ -29,8 +35,8 @@ struct Master {
 }
 
 impl Master {
-    fn new(seed: u64) -> Self {
-        Master { random: Random::new(seed), settings: 0, samples: Vec::new() }
+    fn new(random: Random) -> Self {
+        Master { random, settings: 0, samples: Vec::new() }
     }
 
     fn write(&mut self, start: usize, data: &[u8]) {
@@ -109,8 +115,8 @@ impl Master {
 }
 
 /// The sender's samples one after another, in these settings.
-pub fn dense(settings: u64, length: usize) -> Vec<u8> {
-    let mut master = Master::new(1);
+pub fn dense(number: u64, settings: u64, length: usize) -> Vec<u8> {
+    let mut master = Master::new(chance(1, number));
     if settings != 0 {
         master.set(settings);
     }
@@ -118,8 +124,8 @@ pub fn dense(settings: u64, length: usize) -> Vec<u8> {
 }
 
 /// Writes of so many bytes to an older chip of 512 registers, one after another.
-pub fn older(least: usize, most: usize, length: usize) -> Vec<u8> {
-    let mut random = Random::new(5);
+pub fn older(number: u64, least: usize, most: usize, length: usize) -> Vec<u8> {
+    let mut random = chance(5, number);
     let mut samples = Vec::new();
     while samples.len() < length {
         let start = random.between(FIRST_START, 511 - most) as u64;
@@ -133,21 +139,21 @@ pub fn older(least: usize, most: usize, length: usize) -> Vec<u8> {
 }
 
 /// Reads and writes in all settings, some broken off, with the bus idle now and then.
-pub fn mixed(length: usize) -> Vec<u8> {
-    Master::new(2).recording(length, Master::anything)
+pub fn mixed(number: u64, length: usize) -> Vec<u8> {
+    Master::new(chance(2, number)).recording(length, Master::anything)
 }
 
 /// The dense recording sampled so many times as often.
-pub fn oversampled(times: f64, length: usize) -> Vec<u8> {
+pub fn oversampled(number: u64, times: f64, length: usize) -> Vec<u8> {
     let at = |i: usize| (i as f64 / times) as usize;
-    let once = dense(0, at(length) + 1);
+    let once = dense(number, 0, at(length) + 1);
     (0..length).map(|i| once[at(i)]).collect()
 }
 
 /// The dense recording with each sample a number of times at random.
-pub fn uneven(least: usize, most: usize, length: usize) -> Vec<u8> {
-    let mut random = Random::new(6);
-    let once = dense(0, length.div_ceil(least));
+pub fn uneven(number: u64, least: usize, most: usize, length: usize) -> Vec<u8> {
+    let mut random = chance(6, number);
+    let once = dense(number, 0, length.div_ceil(least));
     let mut samples: Vec<u8> = once
         .iter()
         .flat_map(|&sample| std::iter::repeat_n(sample, random.between(least, most)))
@@ -157,8 +163,8 @@ pub fn uneven(least: usize, most: usize, length: usize) -> Vec<u8> {
 }
 
 /// Streaming writes to an older chip, each sample so many times.
-pub fn older_oversampled(times: usize, length: usize) -> Vec<u8> {
-    let once = older(4, 16, length.div_ceil(times));
+pub fn older_oversampled(number: u64, times: usize, length: usize) -> Vec<u8> {
+    let once = older(number, 4, 16, length.div_ceil(times));
     let mut samples: Vec<u8> =
         once.iter().flat_map(|&sample| std::iter::repeat_n(sample, times)).collect();
     samples.truncate(length);
@@ -166,8 +172,8 @@ pub fn older_oversampled(times: usize, length: usize) -> Vec<u8> {
 }
 
 /// All lines at random.
-pub fn noise(length: usize) -> Vec<u8> {
-    let mut random = Random::new(3);
+pub fn noise(number: u64, length: usize) -> Vec<u8> {
+    let mut random = chance(3, number);
     (0..length).map(|_| random.byte() & 0x0F).collect()
 }
 

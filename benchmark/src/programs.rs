@@ -18,13 +18,13 @@ pub struct Recording {
 
 impl Recording {
     pub fn mixed(registers: usize, samples: usize) -> Self {
-        Self::of(&format!("mixed-{registers}-{samples}"), registers, &inputs::mixed(samples))
+        Self::of(&format!("mixed-{registers}-{samples}"), registers, &inputs::mixed(0, samples))
     }
 
     /// Dense frames, sampled four times as often.
     pub fn four_times(samples: usize) -> Self {
         let name = format!("four-times-{samples}");
-        Self::of(&name, 512, &inputs::oversampled(4.0, samples))
+        Self::of(&name, 512, &inputs::oversampled(0, 4.0, samples))
     }
 
     pub fn of(name: &str, registers: usize, samples: &[u8]) -> Self {

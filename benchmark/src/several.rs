@@ -15,7 +15,7 @@ const CHIPS: usize = 8;
 /// Eight chips after opening, and dense frames to those whose bits are set.
 pub fn dense(addressed: u8, registers: usize, length: usize) -> Given {
     let selects = |alone: u8| if alone & 1 == 0 { !addressed } else { 0xFF };
-    let frames = inputs::dense(0, length);
+    let frames = inputs::dense(0, 0, length);
     let wire = frames.iter().flat_map(|&alone| [selects(alone), alone & !1]);
     Given { samples: wire.collect(), ..Given::opened(&inputs::map(registers), CHIPS) }
 }

@@ -18,6 +18,9 @@ pub enum Side {
     Second,
 }
 
+/// What outgoing buffers hold before a call.
+pub const FILLED: u8 = 0xEE;
+
 /// What a call is lent, and what it answers.
 #[derive(Clone, Debug, PartialEq, Eq)]
 pub struct Space {
@@ -32,6 +35,8 @@ pub struct Space {
     pub out: Vec<u8>,
     pub number: u32,
     pub count: u64,
+    /// How many calls it was lent to before.
+    pub calls: usize,
 }
 
 impl Space {
@@ -42,9 +47,10 @@ impl Space {
             words: vec![0; words_for(registers)],
             chips: Vec::new(),
             memory: Vec::new(),
-            out: vec![0xEE; room],
+            out: vec![FILLED; room],
             number: 99,
             count: 99,
+            calls: 0,
         }
     }
 }

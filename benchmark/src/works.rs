@@ -8,10 +8,13 @@ use second::sender::{self, Order};
 use crate::inputs;
 use crate::setups::Setup;
 use crate::several;
-use crate::sides::{read_by, read_older_by, send_by, send_older_by, test_by, Side, Space};
+use crate::sides::{read_by, read_older_by, send_by, send_older_by, test_by, Side, Space, FILLED};
 
 /// The most samples of one call.
 pub const SAMPLES: usize = 65_536;
+/// The recordings of a work that are read one after the other. A capture is read
+/// once: one alone, again and again, is what a branch predictor knows by heart.
+const RECORDINGS: u64 = 16;
 const REGISTERS: usize = 512;
 const MOST_REGISTERS: usize = 8_192;
 /// The longest order, its samples in single instruction, and where it starts.
@@ -77,13 +80,18 @@ pub struct Work {
     job: Job,
 }
 
+/// Samples, and the bytes lent for their records.
+struct Recording {
+    samples: Vec<u8>,
+    room: usize,
+}
+
 enum Job {
     /// By an AD9557 with this top, or by a newer chip.
     Read {
         top: Option<u64>,
         map: Vec<u8>,
-        samples: Vec<u8>,
-        room: usize,
+        recordings: Vec<Recording>,
     },
     Send {
         top: Option<u64>,
@@ -104,25 +112,24 @@ enum Job {
 
 impl Work {
     /// Reading with room that is sure to suffice.
-    pub fn read(name: &'static str, limit: Limit, registers: usize, samples: Vec<u8>) -> Self {
-        let room = RECORD * samples.len().div_ceil(3);
-        let (map, units) = (inputs::map(registers), samples.len());
-        Work { name, limit, units, job: Job::Read { top: None, map, samples, room } }
+    fn read(name: &'static str, limit: Limit, record: impl Fn(u64) -> Vec<u8>) -> Self {
+        let job = Job::Read { top: None, map: inputs::map(REGISTERS), recordings: roomy(record) };
+        Work { name, limit, units: SAMPLES, job }
     }
 
     /// The same by an older chip.
-    fn read_older(name: &'static str, samples: Vec<u8>) -> Self {
-        let room = RECORD * samples.len().div_ceil(3);
-        let (map, units) = (inputs::older_map(), samples.len());
-        Work { name, limit: OLDER, units, job: Job::Read { top: Some(TOP), map, samples, room } }
+    fn read_older(name: &'static str, record: impl Fn(u64) -> Vec<u8>) -> Self {
+        let job = Job::Read { top: Some(TOP), map: inputs::older_map(), recordings: roomy(record) };
+        Work { name, limit: OLDER, units: SAMPLES, job }
     }
 
     /// Reading with the room that the records take and no more, so that they
     /// have to be counted first.
-    fn read_counted(name: &'static str, limit: Limit, samples: Vec<u8>) -> Self {
-        let (map, units) = (inputs::map(REGISTERS), samples.len());
-        let room = RECORD * inputs::records(&map, &samples);
-        Work { name, limit, units, job: Job::Read { top: None, map, samples, room } }
+    fn read_counted(name: &'static str, limit: Limit, record: impl Fn(u64) -> Vec<u8>) -> Self {
+        let map = inputs::map(REGISTERS);
+        let recordings =
+            recorded(record, |samples| RECORD * inputs::records(&map, samples)).collect();
+        Work { name, limit, units: SAMPLES, job: Job::Read { top: None, map, recordings } }
     }
 
     /// Its samples are counted by the second implementation alone: a call of the
@@ -164,7 +171,9 @@ impl Work {
 
     pub fn space(&self) -> Space {
         match &self.job {
-            Job::Read { map, room, .. } => Space::new((map.len() - 5) / 3, *room),
+            Job::Read { map, recordings, .. } => {
+                Space::new((map.len() - 5) / 3, recordings[0].room)
+            }
             Job::Send { .. } => Space::new(0, ORDERED_SAMPLES),
             Job::Setup { setup, .. } => Space::new(0, setup.samples),
             Job::Test { .. } => Space::new(0, 0),
@@ -172,12 +181,17 @@ impl Work {
         }
     }
 
-    /// One call by one side.
+    /// One call by one side. Who reads takes the next recording.
     pub fn call(&self, side: Side, space: &mut Space) {
         match &self.job {
-            Job::Read { top: None, map, samples, .. } => read_by(side, map, samples, space),
-            Job::Read { top: Some(top), map, samples, .. } => {
-                read_older_by(side, *top, map, samples, space)
+            Job::Read { top, map, recordings } => {
+                let Recording { samples, room } = &recordings[space.calls % recordings.len()];
+                space.calls += 1;
+                space.out.resize(*room, FILLED);
+                match top {
+                    None => read_by(side, map, samples, space),
+                    Some(top) => read_older_by(side, *top, map, samples, space),
+                }
             }
             Job::Send { top: None, settings, data } => {
                 send_by(side, &order(*settings, data), space)
@@ -214,15 +228,38 @@ impl Work {
         }
     }
 
-    /// Both sides on the same input: what they answer and leave is the same,
-    /// byte for byte, and no refusal.
+    /// Both sides on the same input, each that there is: what they answer and
+    /// leave is the same, byte for byte, and no refusal.
     pub fn compare(&self) {
+        let inputs = match &self.job {
+            Job::Read { recordings, .. } => recordings.len(),
+            _ => 1,
+        };
         let (mut proved, mut second) = (self.space(), self.space());
-        self.call(Side::Proved, &mut proved);
-        self.call(Side::Second, &mut second);
-        assert!(proved == second, "{}: the two sides differ", self.name);
-        assert_eq!(proved.number, 0, "{}: refused", self.name);
+        for _ in 0..inputs {
+            self.call(Side::Proved, &mut proved);
+            self.call(Side::Second, &mut second);
+            assert!(proved == second, "{}: the two sides differ", self.name);
+            assert_eq!(proved.number, 0, "{}: refused", self.name);
+        }
     }
+}
+
+/// The recordings of a work, with room by their samples.
+fn recorded(
+    record: impl Fn(u64) -> Vec<u8>,
+    room: impl Fn(&[u8]) -> usize,
+) -> impl Iterator<Item = Recording> {
+    (0..RECORDINGS).map(move |number| {
+        let samples = record(number);
+        let room = room(&samples);
+        Recording { samples, room }
+    })
+}
+
+/// The same with room that is sure to suffice.
+fn roomy(record: impl Fn(u64) -> Vec<u8>) -> Vec<Recording> {
+    recorded(record, |samples| RECORD * samples.len().div_ceil(3)).collect()
 }
 
 fn order(settings: u64, data: &[u8]) -> Order<'_> {
@@ -269,15 +306,15 @@ pub fn works() -> impl Iterator<Item = Work> {
     names.map(|name| work(name).expect("each name has its work"))
 }
 
-/// The work of this name on a recording sampled more often than its clock.
+/// The work of this name on recordings sampled more often than their clock.
 fn often(name: &str) -> Option<Work> {
-    let even = OFTEN.iter().find(|row| row.0 == name);
-    let read = |name, goal, samples| Work::read(name, Limit::near(goal), REGISTERS, samples);
-    if let Some(&(name, times, goal)) = even {
-        return Some(read(name, goal, inputs::oversampled(times, SAMPLES)));
+    if let Some(&(name, times, goal)) = OFTEN.iter().find(|row| row.0 == name) {
+        let record = |number| inputs::oversampled(number, times, SAMPLES);
+        return Some(Work::read(name, Limit::near(goal), record));
     }
     let &(name, least, most, goal) = UNEVEN.iter().find(|row| row.0 == name)?;
-    Some(read(name, goal, inputs::uneven(least, most, SAMPLES)))
+    let record = |number| inputs::uneven(number, least, most, SAMPLES);
+    Some(Work::read(name, Limit::near(goal), record))
 }
 
 /// The work of this name that sends a setup.
@@ -296,24 +333,28 @@ pub fn work(name: &str) -> Option<Work> {
     let frames = Limit { most: 0.9, stretch: 0.7 };
     let noise = Limit { most: 1.5, stretch: 0.75 };
     let counted = Limit { most: 2.0, stretch: 0.75 };
-    let read = |limit, samples| Work::read(name, limit, REGISTERS, samples);
+    let dense = |settings| move |number| inputs::dense(number, settings, SAMPLES);
+    let older = |least, most| move |number| inputs::older(number, least, most, SAMPLES);
+    let random = |number| inputs::noise(number, SAMPLES);
     Some(match name {
-        "read-dense" => read(frames, inputs::dense(0, SAMPLES)),
-        "read-dense-lsb" => read(frames, inputs::dense(1, SAMPLES)),
-        "read-single" => read(frames, inputs::dense(4, SAMPLES)),
-        "read-mixed" => read(frames, inputs::mixed(SAMPLES)),
-        "read-random" => read(noise, inputs::noise(SAMPLES)),
-        "counted-dense" => Work::read_counted(name, counted, inputs::dense(0, SAMPLES)),
-        "counted-random" => Work::read_counted(name, counted, inputs::noise(SAMPLES)),
+        "read-dense" => Work::read(name, frames, dense(0)),
+        "read-dense-lsb" => Work::read(name, frames, dense(1)),
+        "read-single" => Work::read(name, frames, dense(4)),
+        "read-mixed" => Work::read(name, frames, |number| inputs::mixed(number, SAMPLES)),
+        "read-random" => Work::read(name, noise, random),
+        "counted-dense" => Work::read_counted(name, counted, dense(0)),
+        "counted-random" => Work::read_counted(name, counted, random),
         "send-msb" => Work::send(name, 0),
         "send-lsb" => Work::send(name, 1),
         "send-single-msb" => Work::send(name, 4),
         "send-single-lsb" => Work::send(name, 5),
         "map-test" => Work::test(MOST_REGISTERS),
-        "older-dense" => Work::read_older(name, inputs::older(4, 16, SAMPLES)),
-        "older-counted" => Work::read_older(name, inputs::older(1, 3, SAMPLES)),
-        "older-ten-times" => Work::read_older(name, inputs::older_oversampled(10, SAMPLES)),
-        "older-random" => Work::read_older(name, inputs::noise(SAMPLES)),
+        "older-dense" => Work::read_older(name, older(4, 16)),
+        "older-counted" => Work::read_older(name, older(1, 3)),
+        "older-ten-times" => {
+            Work::read_older(name, |number| inputs::older_oversampled(number, 10, SAMPLES))
+        }
+        "older-random" => Work::read_older(name, random),
         "older-send-msb" => Work::send_older(name, 0),
         "older-send-lsb" => Work::send_older(name, 1),
         "several-one" => Work::several(name, 0b0000_1000),

@@ -25,7 +25,7 @@ pub const CARD: [u8; 16] = [
 
 // A byte, its bits the other way round: each nibble as the card has it, and the two exchanged. The card is lent: a const that is used
 // is built anew each time, and who turns many bytes builds it once.
-fn turn_by(card: &[u8; 16], byte: u8) -> u8
+pub fn turn_by(card: &[u8; 16], byte: u8) -> u8
     requires { ⌜ IsCard (now card) ⌝ }
     ensures { λ r. ⌜ r ≡ turned 8 byte ⌝ }
 {
@@ -35,7 +35,7 @@ fn turn_by(card: &[u8; 16], byte: u8) -> u8
 }
 
 // The same of one byte.
-pub fn turn(byte: u8) -> u8
+fn turn(byte: u8) -> u8
     ensures { λ r. ⌜ r ≡ turned 8 byte ⌝ }
 {
     let card = CARD;

@@ -4,13 +4,14 @@ ghost use mathlib.Core.Bool.{Bool};
 ghost use Prim.Native.Nat.{_+_, _/_, _^_, _<_, _≤_};
 ghost use lib.Count.{trailingZeros};
 ghost use lib.ListN.{length};
+ghost use Rattle.base_card.specs.Card.{IsCard};
 ghost use Rattle.bus_words.specs.Words.{wordOf};
 ghost use Rattle.bus_words.specs.Lanes.{highsIn, nibble};
 ghost use Rattle.bus_trace.specs.Scan.{ProgressBounds, LowScanAfter, RisesAhead, BitsAfter, ScanAfter, shiftedThree, shiftedFour};
 use crate::high::past_high;
 use base_bits::bit_at;
 use base_bits::shift_in;
-use base_card::turn;
+use base_card::turn_by;
 use bus_words::four_bits;
 use bus_words::highs;
 use bus_words::level_at;
@@ -74,24 +75,25 @@ fn bits_at(samples: &[u8], from: Progress, rises: u64, line: u8, lsb_first: bool
     }
 }
 
-// The value of some bits with four more, the highest of which came first; the card turns them where the lowest goes first.
-fn with_four(lsb_first: bool, value: u16, bits: u8, more: u8) -> u16
-    requires { ⌜ (value < 2 ^ bits) × (bits + 4 ≤ 16) × (more < 16) ⌝ }
+// The value of some bits with four more, the highest of which came first; the card, which is lent, turns them where the lowest goes
+// first.
+fn with_four(card: &[u8; 16], lsb_first: bool, value: u16, bits: u8, more: u8) -> u16
+    requires { ⌜ (value < 2 ^ bits) × (bits + 4 ≤ 16) × (more < 16) × (IsCard (now card)) ⌝ }
     ensures { λ r. ⌜ ((a b c d : Bool) → more ≡ nibble a b c d → r ≡ shiftedFour «lsb_first» value bits a b c d) ⌝ }
 {
     if lsb_first {
-        return value + ((turn(more * 16) as u16) << bits);
+        return value + ((turn_by(card, more * 16) as u16) << bits);
     }
     value * 16 + more as u16
 }
 
 // The same with the first three of them.
-fn with_three(lsb_first: bool, value: u16, bits: u8, more: u8) -> u16
-    requires { ⌜ (value < 2 ^ bits) × (bits + 4 ≤ 16) × (more < 16) ⌝ }
+fn with_three(card: &[u8; 16], lsb_first: bool, value: u16, bits: u8, more: u8) -> u16
+    requires { ⌜ (value < 2 ^ bits) × (bits + 4 ≤ 16) × (more < 16) × (IsCard (now card)) ⌝ }
     ensures { λ r. ⌜ ((a b c d : Bool) → more ≡ nibble a b c d → r ≡ shiftedThree «lsb_first» value bits a b c) ⌝ }
 {
     if lsb_first {
-        return value + (((turn(more * 16) % 8) as u16) << bits);
+        return value + (((turn_by(card, more * 16) % 8) as u16) << bits);
     }
     value * 8 + (more / 2) as u16
 }
@@ -211,8 +213,15 @@ fn take_words(samples: &[u8], from: Progress, line: u8, lsb_first: bool, last: u
 
 // Samples with CSB low, until the piece ends: the bits of a line at the rises of SCLK, up to so many. Where each takes two samples,
 // eight are taken at once, or seven before the last.
-fn take(samples: &[u8], from: Progress, line: u8, lsb_first: bool, last: u8) -> Progress
-    requires { ⌜ (ProgressBounds (now samples) last from) × (line < 4) ⌝ }
+fn take(
+    card: &[u8; 16],
+    samples: &[u8],
+    from: Progress,
+    line: u8,
+    lsb_first: bool,
+    last: u8,
+) -> Progress
+    requires { ⌜ (ProgressBounds (now samples) last from) × (line < 4) × (IsCard (now card)) ⌝ }
     ensures { λ r. ⌜ LowScanAfter (now (samples .entry)) line «lsb_first» last from r ⌝ }
 {
     let mut p = from;
@@ -229,18 +238,18 @@ fn take(samples: &[u8], from: Progress, line: u8, lsb_first: bool, last: u8) -> 
         if last < p.bits + 7 {
             break;
         }
-        let value = with_four(lsb_first, p.value, p.bits, four_bits(first, line));
+        let value = with_four(card, lsb_first, p.value, p.bits, four_bits(first, line));
         let more = four_bits(second, line);
         if p.bits + 7 == last {
             return Progress {
                 level: 0,
                 bits: last,
-                value: with_three(lsb_first, value, p.bits + 4, more),
+                value: with_three(card, lsb_first, value, p.bits + 4, more),
                 at: at + 15,
             };
         }
         p.level = 2;
-        p.value = with_four(lsb_first, value, p.bits + 4, more);
+        p.value = with_four(card, lsb_first, value, p.bits + 4, more);
         p.bits = p.bits + 8;
         p.at = at + 16;
     }
@@ -249,6 +258,7 @@ fn take(samples: &[u8], from: Progress, line: u8, lsb_first: bool, last: u8) -> 
 
 // Samples up to one that ends the piece, or with CSB high up to one that lets it fall.
 pub fn next_stop(
+    card: &[u8; 16],
     csb: bool,
     samples: &[u8],
     from: Progress,
@@ -256,7 +266,7 @@ pub fn next_stop(
     lsb_first: bool,
     last: u8,
 ) -> Progress
-    requires { ⌜ (ProgressBounds (now samples) last from) × (line < 4) ⌝ }
+    requires { ⌜ (ProgressBounds (now samples) last from) × (line < 4) × (IsCard (now card)) ⌝ }
     ensures { λ r. ⌜ ScanAfter (now (samples .entry)) csb line «lsb_first» last from r ⌝ }
 {
     if csb {
@@ -268,5 +278,5 @@ pub fn next_stop(
             at: past.at,
         };
     }
-    take(samples, from, line, lsb_first, last)
+    take(card, samples, from, line, lsb_first, last)
 }

@@ -1,4 +1,4 @@
--- An event taken, by its case.
+-- A whole byte taken, read or written; and the end of a frame, with or without a record.
 use mathlib.Core.Path.{_≡_, refl, sym, _∙_, ap}
 use mathlib.Core.Bool.{Bool, true, false, cond}
 use mathlib.Core.List.{List}
@@ -12,7 +12,7 @@ use Rattle.reg_touched.specs.Touched.{touchedWords}
 use Rattle.base_chip.specs.declared.Chip.{Chip}
 use Rattle.bus_settings.specs.declared.Settings.{Settings}
 use Rattle.bus_session.specs.declared.Event.{Event}
-use Rattle.bus_session.specs.declared.Event.the-variants.{Nothing, Whole, Aborted, Ended}
+use Rattle.bus_session.specs.declared.Event.the-variants.{Whole, Aborted, Ended}
 use Rattle.reg_banks.specs.Banks.{Banks}
 use Rattle.reg_banks.specs.Read.{dueByte}
 use Rattle.reg_write.specs.declared.Written.{Written}
@@ -40,16 +40,12 @@ has-bit {c} {m} {b} {t = t} k {a} {v} wrote one =
 abbrev took : ℕ → Bool → EventOutcome
 took at armed = record { at = at; armed = armed }
 
-module _ {c : Chip} {m : List ℕ} {k : Bool} {b : Banks} {ws : List ℕ} {t : Settings} {e : Event} {old : List ℕ} {at : ℕ} where
-  pub took-nothing : e ≡ Nothing → EventAfter c m k b ws t e old at b ws old (took at k)
+module _ {c : Chip} {m : List ℕ} {k : Bool} {b : Banks} {ws : List ℕ} {t : Settings} {old : List ℕ} {at : ℕ} where
+  pub took-read : {read : Bool} {a v due : ℕ} {new : List ℕ} → read ≡ true → due ≡ dueByte c m b t a
+      → new ≡ sets old at (readRecord a due v) → EventAfter c m k b ws t (Whole read a v) old at b ws new (took (at + recordSize) k)
   unfolding banksAfter armedAfter touchedAfter recordOf
-  took-nothing ee = rw ee (record { banks-after = refl; words-after = refl; armed-after = refl; records-after = refl; next-place = sym (add-zero at) })
-
-  pub took-read : {read : Bool} {a v due : ℕ} {new : List ℕ} → e ≡ Whole read a v → read ≡ true → due ≡ dueByte c m b t a
-      → new ≡ sets old at (readRecord a due v) → EventAfter c m k b ws t e old at b ws new (took (at + recordSize) k)
-  unfolding banksAfter armedAfter touchedAfter recordOf
-  took-read {a = a} {v} ee er ed en =
-      rw (ee, er)
+  took-read {a = a} {v} er ed en =
+      rw er
       (record {
         banks-after = refl;
         words-after = refl;
@@ -58,12 +54,12 @@ module _ {c : Chip} {m : List ℕ} {k : Bool} {b : Banks} {ws : List ℕ} {t : S
         next-place = refl;
       })
 
-  pub took-write : {read : Bool} {a v : ℕ} {w : Written} {after : Banks} {words new : List ℕ} {l : Bool} → e ≡ Whole read a v → read ≡ false
+  pub took-write : {read : Bool} {a v : ℕ} {w : Written} {after : Banks} {words new : List ℕ} {l : Bool} → read ≡ false
       → Wrote c m b t a v w after → words ≡ touchedOn ws a (w .effect) → new ≡ sets old at (writeRecord a v w) → l ≡ armedOn c m k (w .effect)
-      → EventAfter c m k b ws t e old at after words new (took (at + recordSize) l)
+      → EventAfter c m k b ws t (Whole read a v) old at after words new (took (at + recordSize) l)
   unfolding banksAfter armedAfter touchedAfter recordOf
-  took-write {a = a} {v} ee er wrote ew en el =
-      rw (ee, er)
+  took-write {a = a} {v} er wrote ew en el =
+      rw er
       (record {
         banks-after = wrote .banks-after;
         words-after =
@@ -74,11 +70,11 @@ module _ {c : Chip} {m : List ℕ} {k : Bool} {b : Banks} {ws : List ℕ} {t : S
         next-place = refl;
       })
 
-  pub took-abort : {a bits : ℕ} {d : Bool} {after : Banks} {new : List ℕ} → e ≡ Aborted a bits d → after ≡ riseBanks c m k b
+  pub took-abort : {e : Event} {a bits : ℕ} {d : Bool} {after : Banks} {new : List ℕ} → e ≡ Aborted a bits d → after ≡ riseBanks c m k b
       → new ≡ sets old at (abortRecord a bits d) → EventAfter c m k b ws t e old at after ws new (took (at + recordSize) false)
   unfolding banksAfter armedAfter touchedAfter recordOf
   took-abort ee ea en = rw ee (record { banks-after = ea; words-after = refl; armed-after = refl; records-after = en; next-place = refl })
 
-  pub took-end : {after : Banks} → e ≡ Ended → after ≡ riseBanks c m k b → EventAfter c m k b ws t e old at after ws old (took at false)
+  pub took-end : {e : Event} {after : Banks} → e ≡ Ended → after ≡ riseBanks c m k b → EventAfter c m k b ws t e old at after ws old (took at false)
   unfolding banksAfter armedAfter touchedAfter recordOf
   took-end ee ea = rw ee (record { banks-after = ea; words-after = refl; armed-after = refl; records-after = refl; next-place = sym (add-zero at) })

@@ -5,6 +5,7 @@ ghost use Prim.Native.Nat.{_+_, _*_, _<_, _≤_};
 ghost use lib.ListN.{length};
 ghost use lib.Seq.{sets};
 ghost use Rattle.base_sizes.specs.Sizes.{recordSize};
+ghost use Rattle.bus_session.specs.declared.Event.the-variants.{Whole};
 ghost use Rattle.reg_banks.specs.Banks.{banks};
 ghost use Rattle.read_records.specs.Records.{recordsIn, recordBytes, writeRecord, readRecord, abortRecord};
 ghost use Rattle.reg_write.specs.Write.{touchesOn};
@@ -164,8 +165,8 @@ pub fn take_end(
     }
 }
 
-// Does what an event does to the banks and to the words of touched registers, and puts its record at a place.
-pub fn take_event(
+// Does what a whole byte does to the banks and to the words of touched registers, and puts its record at a place.
+pub fn take_byte(
     chip: Chip,
     map: &[u8],
     active: &mut [u8],
@@ -173,60 +174,32 @@ pub fn take_event(
     words: &mut [u64],
     settings: Settings,
     armed: bool,
-    event: Event,
+    read: bool,
+    address: u16,
+    byte: u8,
     records: &mut [u8],
     at: usize,
 ) -> EventOutcome
-    requires { ⌜ EventBefore chip (now map) (banks (now active) (now buffer)) (now words) settings event (now records) at ⌝ }
+    requires { ⌜ EventBefore chip (now map) (banks (now active) (now buffer)) (now words) settings (Whole read address byte) (now records) at ⌝ }
     ensures { λ r.
-        ⌜ EventAfter chip (now (map .entry)) armed (banks (now (active .entry)) (now (buffer .entry))) (now (words .entry)) settings event
-        (now (records .entry)) at (banks (now (active .exit)) (now (buffer .exit))) (now (words .exit)) (now (records .exit)) r ⌝ }
+        ⌜ EventAfter chip (now (map .entry)) armed (banks (now (active .entry)) (now (buffer .entry))) (now (words .entry)) settings
+        (Whole read address byte) (now (records .entry)) at (banks (now (active .exit)) (now (buffer .exit))) (now (words .exit))
+        (now (records .exit)) r ⌝ }
 {
-    match event {
-        Event::Nothing => EventOutcome {
-            at: at,
+    if read {
+        let due = reg_banks::due_byte(chip, map, active, buffer, settings, address);
+        put_read(records, at, address, due, byte);
+        return EventOutcome {
+            at: at + RECORD,
             armed: armed,
-        },
-        Event::Whole {
-            read,
-            address,
-            byte,
-        } => {
-            if read {
-                let due = reg_banks::due_byte(chip, map, active, buffer, settings, address);
-                put_read(records, at, address, due, byte);
-                return EventOutcome {
-                    at: at + RECORD,
-                    armed: armed,
-                };
-            }
-            let written = reg_write::write(chip, map, active, buffer, settings, address, byte);
-            touch_written(words, address, written.effect);
-            put_write(records, at, address, byte, written);
-            let armed = armed_on(chip, map, armed, written.effect);
-            EventOutcome {
-                at: at + RECORD,
-                armed: armed,
-            }
-        }
-        Event::Aborted {
-            address,
-            bits,
-            data,
-        } => {
-            end_frame(chip, map, active, buffer, armed);
-            put_abort(records, at, address, bits, data);
-            EventOutcome {
-                at: at + RECORD,
-                armed: false,
-            }
-        }
-        Event::Ended => {
-            end_frame(chip, map, active, buffer, armed);
-            EventOutcome {
-                at: at,
-                armed: false,
-            }
-        }
+        };
+    }
+    let written = reg_write::write(chip, map, active, buffer, settings, address, byte);
+    touch_written(words, address, written.effect);
+    put_write(records, at, address, byte, written);
+    let armed = armed_on(chip, map, armed, written.effect);
+    EventOutcome {
+        at: at + RECORD,
+        armed: armed,
     }
 }

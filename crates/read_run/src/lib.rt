@@ -2,6 +2,7 @@
 // their records, put or only counted.
 ghost use mathlib.Core.Path.{_≡_};
 ghost use mathlib.Core.Bool.{cond};
+ghost use Rattle.bus_session.specs.declared.Event.the-variants.{Whole};
 ghost use Rattle.reg_banks.specs.Banks.{banks};
 ghost use Rattle.read_records.specs.Contracts.{endOf};
 ghost use Rattle.read_run.specs.Reading.{readerState};
@@ -10,10 +11,10 @@ ghost use Rattle.read_run.specs.Reach.{reaches};
 ghost use Rattle.read_run.specs.Contracts.{PassBefore, PassAfter, RunBefore, RunAfter};
 use base_bits::bit_at;
 use base_bits::shift_in;
+use base_card::CARD;
 use base_chip::Chip;
 use base_chip::is_newer;
 use base_sizes::RECORD;
-use bus_session::Event;
 use bus_session::Phase;
 use bus_session::Port;
 use bus_session::Session;
@@ -27,9 +28,8 @@ use bus_trace::last_of;
 use bus_trace::level_of;
 use bus_trace::next_stop;
 use read_records::EventOutcome;
-use read_records::records_in;
+use read_records::take_byte;
 use read_records::take_end;
-use read_records::take_event;
 
 // Where a pass ended: the session, and how many bytes the records have.
 pub struct RunEnd {
@@ -37,8 +37,8 @@ pub struct RunEnd {
     pub size: usize,
 }
 
-// Takes an event, or only counts its record where none is put.
-fn pass_event(
+// Takes a whole byte, or only counts its record where none is put.
+fn pass_byte(
     chip: Chip,
     storing: bool,
     map: &[u8],
@@ -47,17 +47,20 @@ fn pass_event(
     words: &mut [u64],
     settings: Settings,
     armed: bool,
-    event: Event,
+    read: bool,
+    address: u16,
+    byte: u8,
     records: &mut [u8],
     at: usize,
 ) -> EventOutcome
-    requires { ⌜ PassBefore chip storing (now map) (banks (now active) (now buffer)) (now words) settings event (now records) at ⌝ }
+    requires { ⌜ PassBefore chip storing (now map) (banks (now active) (now buffer)) (now words) settings (Whole read address byte) (now records) at ⌝ }
     ensures { λ r.
         ⌜ PassAfter chip storing (now (map .entry)) armed (banks (now (active .entry)) (now (buffer .entry))) (now (words .entry)) settings
-        event (now (records .entry)) at (banks (now (active .exit)) (now (buffer .exit))) (now (words .exit)) (now (records .exit)) r ⌝ }
+        (Whole read address byte) (now (records .entry)) at (banks (now (active .exit)) (now (buffer .exit))) (now (words .exit))
+        (now (records .exit)) r ⌝ }
 {
     if storing {
-        return take_event(
+        return take_byte(
             chip,
             map,
             active,
@@ -65,13 +68,15 @@ fn pass_event(
             words,
             settings,
             armed,
-            event,
+            read,
+            address,
+            byte,
             records,
             at,
         );
     }
     EventOutcome {
-        at: at + RECORD * records_in(event),
+        at: at + RECORD,
         armed: armed,
     }
 }
@@ -202,6 +207,7 @@ pub fn run_samples(
         (now (samples .entry)) (now (records .entry))
         (readerState (r .session) (now (active .exit)) (now (buffer .exit)) (now (words .exit))) (r .size) (now (records .exit)) ⌝ }
 {
+    let card = CARD;
     let mut s = session.port;
     let mut armed = session.armed;
     let phase = s.phase;
@@ -217,7 +223,7 @@ pub fn run_samples(
             value: s.value,
             at: i,
         };
-        let p = next_stop(s.csb, samples, from, line, s.in_use.lsb_first, last);
+        let p = next_stop(&card, s.csb, samples, from, line, s.in_use.lsb_first, last);
         s.sclk = p.level == 2;
         s.bits = p.bits;
         s.value = p.value;
@@ -293,13 +299,8 @@ pub fn run_samples(
             // SCLK rises: the last bit of a byte.
             let value = shift_in(s.in_use.lsb_first, s.value, s.bits, bit_at(x, line));
             let byte = value as u8;
-            let event = Event::Whole {
-                read: s.read,
-                address: s.address,
-                byte: byte,
-            };
             let settings = s.settings;
-            let took = pass_event(
+            let took = pass_byte(
                 chip,
                 storing,
                 map,
@@ -308,7 +309,9 @@ pub fn run_samples(
                 words,
                 settings,
                 armed,
-                event,
+                s.read,
+                s.address,
+                byte,
                 records,
                 at,
             );

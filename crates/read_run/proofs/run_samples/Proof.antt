@@ -10,6 +10,7 @@ use lib.ListN.{length, getD}
 use borrow.Author.Needs.{needs}
 use borrow.Author.Tests.{not-true, not-false}
 use Rattle.base_bits.specs.Bits.{bitAt, shiftedIn}
+use Rattle.base_card.proofs.Entries.{is-card}
 use Rattle.bus_settings.specs.declared.Settings.{Settings}
 use Rattle.bus_session.specs.declared.Port.{Port}
 use Rattle.bus_session.specs.declared.Event.the-variants.{Whole}
@@ -28,14 +29,14 @@ use Rattle.read_run.proofs.run_samples.Statement.{statement}
 use Rattle.read_run.proofs.run_samples.Tie as tie
 
 abbrev Inv-loop : tie.InvT-loop
-Inv-loop chip storing map active₀ buffer₀ words₀ samples records₀ s₀ armed₀ last₀ newer line₀ at₀ i₀ active buffer words records s armed last line at i =
+Inv-loop chip storing map active₀ buffer₀ words₀ samples records₀ card s₀ armed₀ last₀ newer line₀ at₀ i₀ active buffer words records s armed last line at i =
     ((length active ≡ length active₀) × (length buffer ≡ length buffer₀) × (length words ≡ length words₀) × (length records ≡ length records₀))
     × (last ≡ lastOf (phaseOfLast last))
     × Running chip storing map samples (readerStateOf s₀ armed₀ active₀ buffer₀ words₀) (readerStateOf (phased s last) armed active buffer words) records₀ records at i
     × (line ≡ sourceLine chip (phased s last))
 
 abbrev μ-loop : tie.MeasureT-loop
-μ-loop chip storing map active₀ buffer₀ words₀ samples records₀ s₀ armed₀ last₀ newer line₀ at₀ i₀ active buffer words records s armed last line at i = length samples - i
+μ-loop chip storing map active₀ buffer₀ words₀ samples records₀ card s₀ armed₀ last₀ newer line₀ at₀ i₀ active buffer words records s armed last line at i = length samples - i
 
 last-of-requires : tie.Need-last-of-requires Inv-loop μ-loop
 last-of-requires c κs = search needs
@@ -60,43 +61,44 @@ level-of-requires c κs = search needs
 
 next-stop-requires : tie.Need-next-stop-requires Inv-loop μ-loop
 next-stop-requires c κs =
-    let t = c .before .before .loop in (
-      start-stands (t .s) (t .last) (t .inv .2) (t .inv .1) (c .before .loop-test .taken) (c .level-of .result) (c .level-of .ensures),
-      rw (t .inv .3) (line-lt (c .before .before .before .before .before .before .before .before .before .before .before .before .before .before .args .chip) (phased (t .s) (t .last))),
+    let t = c .before .before .before .loop in (
+      start-stands (t .s) (t .last) (t .inv .2) (t .inv .1) (c .before .before .loop-test .taken) (c .before .level-of .result) (c .before .level-of .ensures),
+      rw (t .inv .3) (line-lt (c .before .before .before .before .before .before .before .before .before .before .before .before .before .before .before .args .chip) (phased (t .s) (t .last))),
+      is-card,
     )
 
 -- the stop
 stopped : (c : tie.After-next-stop Inv-loop μ-loop)
-    → let a = c .before .before .before .before .before .before .before .before .before .before .before .before .before .before .before .args in
-    let t = c .before .before .before .loop in
+    → let a = c .before .before .before .before .before .before .before .before .before .before .before .before .before .before .before .before .args in
+    let t = c .before .before .before .before .loop in
     Stop (a .chip) (a .storing) (a .map .now) (a .samples .now) (readerState (a .session) (a .active .now) (a .buffer .now) (a .words .now)) (a .records .now) (t .s) (t .last) (t .armed) (t .active) (t .buffer) (t .words) (t .records) (t .at) (t .i) (c .next-stop .result)
 stopped c =
-    let t = c .before .before .before .loop in
-    stop-at (t .s) (t .last) (t .inv .2) (t .inv .1) (c .before .before .loop-test .taken) (c .before .level-of .result) (c .before .level-of .ensures) (t .inv .3) (c .next-stop .ensures)
+    let t = c .before .before .before .before .loop in
+    stop-at (t .s) (t .last) (t .inv .2) (t .inv .1) (c .before .before .before .loop-test .taken) (c .before .before .level-of .result) (c .before .before .level-of .ensures) (t .inv .3) (c .next-stop .ensures)
 
 loop-less : tie.Need-loop-less Inv-loop μ-loop
-loop-less c = omega (arith, c .before .before .next-stop .ensures .ahead, c .before .before .next-stop .ensures .within, c .before .before .before .before .loop-test .taken, c .if1 .taken)
+loop-less c = omega (arith, c .before .before .next-stop .ensures .ahead, c .before .before .next-stop .ensures .within, c .before .before .before .before .before .loop-test .taken, c .if1 .taken)
 
 loop-again : tie.Need-loop-again Inv-loop μ-loop
 loop-again c =
     let k = c .before .before in
-    let t = k .before .before .before .loop in
+    let t = k .before .before .before .before .loop in
     (t .inv .0, t .inv .1, stop-ended (stopped k), t .inv .3)
 
 shared-slice-read-x : tie.Need-shared-slice-read-x Inv-loop μ-loop
 shared-slice-read-x c = c .before .if1 .left
 
 add-i : tie.Need-add-i Inv-loop μ-loop
-add-i c = omega (arith, c .before .before .before .next-stop .ensures .within, c .before .if1 .left, c .before .before .before .before .before .before .before .before .before .before .before .before .before .before .before .before .before .before .pre .few)
+add-i c = omega (arith, c .before .before .before .next-stop .ensures .within, c .before .if1 .left, c .before .before .before .before .before .before .before .before .before .before .before .before .before .before .before .before .before .before .before .pre .few)
 
 -- a turn that takes the sample at the stop
 turn-less : (c : tie.Else1 Inv-loop μ-loop)
     → let k = c .before .before in
-    let n = length (k .before .before .before .before .before .before .before .before .before .before .before .before .before .before .before .args .samples .now) in
-    n - (k .next-stop .result .at + 1) < n - k .before .before .before .loop .i
+    let n = length (k .before .before .before .before .before .before .before .before .before .before .before .before .before .before .before .before .args .samples .now) in
+    n - (k .next-stop .result .at + 1) < n - k .before .before .before .before .loop .i
 turn-less c =
     let k = c .before .before in
-    omega (arith, k .next-stop .ensures .ahead, k .next-stop .ensures .within, k .before .before .loop-test .taken, c .if1 .left)
+    omega (arith, k .next-stop .ensures .ahead, k .next-stop .ensures .within, k .before .before .before .loop-test .taken, c .if1 .left)
 
 bit-at-requires : tie.Need-bit-at-requires Inv-loop μ-loop
 bit-at-requires c κs = omega arith
@@ -107,7 +109,7 @@ loop-less-2 c = turn-less (c .before .before .before .before .before)
 loop-again-2 : tie.Need-loop-again-2 Inv-loop μ-loop
 loop-again-2 c =
     let k = c .before .before .before .before .before .before .before in
-    let t = k .before .before .before .loop in
+    let t = k .before .before .before .before .loop in
     (t .inv .0, t .inv .1, stop-goes-on (stopped k) (c .before .before .before .before .before .if1 .left) (c .before .before .before .if2 .taken) _ (c .before .before .bit-at .ensures) (c .if3 .taken), t .inv .3)
 
 loop-less-3 : tie.Need-loop-less-3 Inv-loop μ-loop
@@ -116,7 +118,7 @@ loop-less-3 c = turn-less (c .before .before .before .before .before .before .be
 loop-again-3 : tie.Need-loop-again-3 Inv-loop μ-loop
 loop-again-3 c =
     let k = c .before .before .before .before .before .before .before .before .before .before .before in
-    let t = k .before .before .before .loop in
+    let t = k .before .before .before .before .loop in
     (t .inv .0, refl, stop-starts (stopped k) (c .before .before .before .before .before .before .before .before .before .if1 .left) (c .before .before .before .before .before .before .before .if2 .taken) _ (c .before .before .before .before .before .before .bit-at .ensures) (c .before .before .before .before .if3 .left), refl)
 
 bit-at-requires-2 : tie.Need-bit-at-requires-2 Inv-loop μ-loop
@@ -131,14 +133,14 @@ loop-less-4 c = turn-less (c .before .before .before .before .before .before)
 loop-again-4 : tie.Need-loop-again-4 Inv-loop μ-loop
 loop-again-4 c =
     let k = c .before .before .before .before .before .before .before .before in
-    let t = k .before .before .before .loop in
+    let t = k .before .before .before .before .loop in
     (t .inv .0, t .inv .1, stop-stalls (stopped k) (c .before .before .before .before .before .before .if1 .left) (c .before .before .before .before .if2 .left) (c .before .before .before .if4 .taken) _ (c .before .before .bit-at2 .ensures) (sym (c .before .may-stall .ensures) ∙ c .if5 .taken), t .inv .3)
 
 pass-end-requires : tie.Need-pass-end-requires Inv-loop μ-loop
 pass-end-requires c κs =
     let b = c .before .before .before .before .before in
     let k = b .before .before .before .before .before .before .before .before in
-    passing (k .before .before .before .loop .inv .2) (stop-ends (stopped k) (b .before .before .before .before .before .before .if1 .left) (b .before .before .before .before .if2 .left) (b .before .before .before .if4 .taken) _ (b .before .before .bit-at2 .ensures) (sym (b .before .may-stall .ensures) ∙ b .if5 .left)) (k .before .before .before .before .before .before .before .before .before .before .before .before .before .before .before .pre .few)
+    passing (k .before .before .before .before .loop .inv .2) (stop-ends (stopped k) (b .before .before .before .before .before .before .if1 .left) (b .before .before .before .before .if2 .left) (b .before .before .before .if4 .taken) _ (b .before .before .bit-at2 .ensures) (sym (b .before .may-stall .ensures) ∙ b .if5 .left)) (k .before .before .before .before .before .before .before .before .before .before .before .before .before .before .before .before .pre .few)
 
 bit-at-requires-3 : tie.Need-bit-at-requires-3 Inv-loop μ-loop
 bit-at-requires-3 c κs = omega arith
@@ -153,11 +155,11 @@ line-at-requires-2 c κs = search needs
 instruction-is : (c : tie.After-shift-in Inv-loop μ-loop)
     → let k = c .before .before .before .before .before .before .before .before in
     let p = k .next-stop .result in
-    c .shift-in .result ≡ shiftedIn (k .before .before .before .loop .s .«in_use» .«lsb_first») (p .value) (p .bits) (bitAt (getD (k .before .before .before .before .before .before .before .before .before .before .before .before .before .before .before .args .samples .now) (p .at) 0) 2)
+    c .shift-in .result ≡ shiftedIn (k .before .before .before .before .loop .s .«in_use» .«lsb_first») (p .value) (p .bits) (bitAt (getD (k .before .before .before .before .before .before .before .before .before .before .before .before .before .before .before .before .args .samples .now) (p .at) 0) 2)
 instruction-is c =
     let k = c .before .before .before .before .before .before .before .before in
     let p = k .next-stop .result in
-    c .shift-in .ensures ∙ ap (shiftedIn (k .before .before .before .loop .s .«in_use» .«lsb_first») (p .value) (p .bits)) (c .before .bit-at3 .ensures)
+    c .shift-in .ensures ∙ ap (shiftedIn (k .before .before .before .before .loop .s .«in_use» .«lsb_first») (p .value) (p .bits)) (c .before .bit-at3 .ensures)
 
 loop-less-5 : tie.Need-loop-less-5 Inv-loop μ-loop
 loop-less-5 c = turn-less (c .before .before .before .before .before .before .before .before .before)
@@ -165,8 +167,8 @@ loop-less-5 c = turn-less (c .before .before .before .before .before .before .be
 loop-again-5 : tie.Need-loop-again-5 Inv-loop μ-loop
 loop-again-5 c =
     let k = c .before .before .before .before .before .before .before .before .before .before .before in
-    let t = k .before .before .before .loop in
-    let n = k .before .before .before .before .before .before .is-newer .ensures in
+    let t = k .before .before .before .before .loop in
+    let n = k .before .before .before .before .before .before .before .is-newer .ensures in
     let r = stop-enters-newer (stopped k) (c .before .before .before .before .before .before .before .before .before .if1 .left) (c .before .before .before .before .before .before .before .if2 .left) (c .before .before .before .before .before .before .if4 .left) (c .before .before .before .before .before .if6 .taken) _ (instruction-is (c .before .before .before)) (sym n ∙ c .if7 .taken) in
     (t .inv .0, refl, r, line-now r _ _ n (c .before .line-at2 .ensures))
 
@@ -185,15 +187,15 @@ loop-less-6 c = turn-less (c .before .before .before .before .before .before .be
 loop-again-6 : tie.Need-loop-again-6 Inv-loop μ-loop
 loop-again-6 c =
     let k = c .before .before .before .before .before .before .before .before .before .before .before .before .before in
-    let t = k .before .before .before .loop in
-    let n = k .before .before .before .before .before .before .is-newer .ensures in
+    let t = k .before .before .before .before .loop in
+    let n = k .before .before .before .before .before .before .before .is-newer .ensures in
     let r = stop-enters-older (stopped k) (c .before .before .before .before .before .before .before .before .before .before .before .if1 .left) (c .before .before .before .before .before .before .before .before .before .if2 .left) (c .before .before .before .before .before .before .before .before .if4 .left) (c .before .before .before .before .before .before .before .if6 .taken) _ (instruction-is (c .before .before .before .before .before)) (sym n ∙ c .before .before .if7 .left) (sym (c .before .reaches .ensures) ∙ c .if8 .taken) in
     (t .inv .0, refl, r, line-now r _ _ n (c .before .before .before .line-at2 .ensures))
 
 bit-at-requires-4 : tie.Need-bit-at-requires-4 Inv-loop μ-loop
 bit-at-requires-4 c κs =
-    let t = c .before .before .before .before .before .before .before .before .before .before .loop in
-    omega (arith, t .inv .3, line-lt (c .before .before .before .before .before .before .before .before .before .before .before .before .before .before .before .before .before .before .before .before .before .before .args .chip) (phased (t .s) (t .last)))
+    let t = c .before .before .before .before .before .before .before .before .before .before .before .loop in
+    omega (arith, t .inv .3, line-lt (c .before .before .before .before .before .before .before .before .before .before .before .before .before .before .before .before .before .before .before .before .before .before .before .args .chip) (phased (t .s) (t .last)))
 
 shift-in-requires-2 : tie.Need-shift-in-requires-2 Inv-loop μ-loop
 shift-in-requires-2 c κs = room-for-bit _ (stopped (c .before .before .before .before .before .before .before .before) .reached .good)
@@ -202,54 +204,54 @@ shift-in-requires-2 c κs = room-for-bit _ (stopped (c .before .before .before .
 byte-is : (c : tie.After-shift-in2 Inv-loop μ-loop)
     → let k = c .before .before .before .before .before .before .before .before .before in
     let p = k .next-stop .result in
-    let t = k .before .before .before .loop in
-    let a = k .before .before .before .before .before .before .before .before .before .before .before .before .before .before .before .args in
+    let t = k .before .before .before .before .loop in
+    let a = k .before .before .before .before .before .before .before .before .before .before .before .before .before .before .before .before .args in
     c .shift-in2 .result ≡ shiftedIn (t .s .«in_use» .«lsb_first») (p .value) (p .bits) (bitAt (getD (a .samples .now) (p .at) 0) (sourceLine (a .chip) (phased (t .s) (t .last))))
 byte-is c =
     let k = c .before .before .before .before .before .before .before .before .before in
     let p = k .next-stop .result in
     c .shift-in2 .ensures
-    ∙ ap (shiftedIn (k .before .before .before .loop .s .«in_use» .«lsb_first») (p .value) (p .bits)) (c .before .bit-at4 .ensures ∙ ap (bitAt (getD (k .before .before .before .before .before .before .before .before .before .before .before .before .before .before .before .args .samples .now) (p .at) 0)) (k .before .before .before .loop .inv .3))
+    ∙ ap (shiftedIn (k .before .before .before .before .loop .s .«in_use» .«lsb_first») (p .value) (p .bits)) (c .before .bit-at4 .ensures ∙ ap (bitAt (getD (k .before .before .before .before .before .before .before .before .before .before .before .before .before .before .before .before .args .samples .now) (p .at) 0)) (k .before .before .before .before .loop .inv .3))
 
 cast-byte : tie.Need-cast-byte Inv-loop μ-loop
 cast-byte c = omega (arith, c .shift-in2 .ensures, byte-small (stopped (c .before .before .before .before .before .before .before .before .before)) (c .before .before .if9 .taken) (c .before .bit-at4 .result))
 
-pass-event-requires : tie.Need-pass-event-requires Inv-loop μ-loop
-pass-event-requires c κs =
+pass-byte-requires : tie.Need-pass-byte-requires Inv-loop μ-loop
+pass-byte-requires c κs =
     let b = c .before .before .before .before .before in
     let k = b .before .before .before .before .before .before .before .before .before in
-    passing (k .before .before .before .loop .inv .2) (stop-whole (stopped k) (b .before .before .before .before .before .before .before .if1 .left) (b .before .before .before .before .before .if2 .left) (b .before .before .before .before .if4 .left) (b .before .before .if9 .taken) _ (byte-is b)) (k .before .before .before .before .before .before .before .before .before .before .before .before .before .before .before .pre .few)
+    passing (k .before .before .before .before .loop .inv .2) (stop-whole (stopped k) (b .before .before .before .before .before .before .before .if1 .left) (b .before .before .before .before .before .if2 .left) (b .before .before .before .before .if4 .left) (b .before .before .if9 .taken) _ (byte-is b)) (k .before .before .before .before .before .before .before .before .before .before .before .before .before .before .before .before .pre .few)
 
 -- once the byte's event is passed
-byte-on : (c : tie.After-pass-event Inv-loop μ-loop)
+byte-on : (c : tie.After-pass-byte Inv-loop μ-loop)
     → let k = c .before .before .before .before .before .before .before .before .before .before .before .before .before .before .before in
-    let a = k .before .before .before .before .before .before .before .before .before .before .before .before .before .before .before .args in
-    let t = k .before .before .before .loop in
+    let a = k .before .before .before .before .before .before .before .before .before .before .before .before .before .before .before .before .args in
+    let t = k .before .before .before .before .loop in
     let p = k .next-stop .result in
-    let l = c .pass-event .last .1 .1 .1 in
+    let l = c .pass-byte .last .1 .1 .1 in
     (q : Port) → NextPath (a .chip) (a .samples .now) (phased (t .s) (t .last)) (t .i) (Whole (t .s .read) (t .s .address) (c .before .before .before .before .before .before .shift-in2 .result)) q (p .at + 1)
-    → ((length (l .0) ≡ length (a .active .now)) × (length (l .1 .0) ≡ length (a .buffer .now)) × (length (l .1 .1 .0) ≡ length (a .words .now)) × (length (l .1 .1 .1 .1 .1 .1 .0) ≡ length (a .records .now)))
-    × Running (a .chip) (a .storing) (a .map .now) (a .samples .now) (readerState (a .session) (a .active .now) (a .buffer .now) (a .words .now)) (readerStateOf q (c .pass-event .result .armed) (l .0) (l .1 .0) (l .1 .1 .0)) (a .records .now) (l .1 .1 .1 .1 .1 .1 .0) (c .pass-event .result .at) (p .at + 1)
+    → ((length (l .0) ≡ length (a .active .now)) × (length (l .1 .0) ≡ length (a .buffer .now)) × (length (l .1 .1 .0) ≡ length (a .words .now)) × (length (l .1 .1 .1 .1 .1 .1 .1 .1 .0) ≡ length (a .records .now)))
+    × Running (a .chip) (a .storing) (a .map .now) (a .samples .now) (readerState (a .session) (a .active .now) (a .buffer .now) (a .words .now)) (readerStateOf q (c .pass-byte .result .armed) (l .0) (l .1 .0) (l .1 .1 .0)) (a .records .now) (l .1 .1 .1 .1 .1 .1 .1 .1 .0) (c .pass-byte .result .at) (p .at + 1)
 byte-on c q n =
-    let t = c .before .before .before .before .before .before .before .before .before .before .before .before .before .before .before .before .before .before .loop in
-    let l = c .pass-event .kept .1 .1 .1 in
-    ((l .0 ∙ t .inv .0 .0, l .1 .0 ∙ t .inv .0 .1, l .1 .1 .0 ∙ t .inv .0 .2, l .1 .1 .1 .1 .1 .1 .0 ∙ t .inv .0 .3), running-on (t .inv .2) n (c .pass-event .ensures))
+    let t = c .before .before .before .before .before .before .before .before .before .before .before .before .before .before .before .before .before .before .before .loop in
+    let l = c .pass-byte .kept .1 .1 .1 in
+    ((l .0 ∙ t .inv .0 .0, l .1 .0 ∙ t .inv .0 .1, l .1 .1 .0 ∙ t .inv .0 .2, l .1 .1 .1 .1 .1 .1 .1 .1 .0 ∙ t .inv .0 .3), running-on (t .inv .2) n (c .pass-byte .ensures))
 
 after-requires : tie.Need-after-requires Inv-loop μ-loop
 after-requires c κs = search needs
 
 -- the settings after the byte, where the ways of a byte that can change them and of one that cannot meet
 settled-is : (c : tie.Joined10 Inv-loop μ-loop)
-    → let t = c .before .before .before .before .before .before .before .before .before .before .before .before .before .before .before .before .before .before .before .before .before .before .before .before .before .before .before .before .before .loop in
-    c .if10 .s ≡ settled (t .s) (settingsOnByte (c .before .before .before .before .before .before .before .before .before .before .before .before .before .before .before .before .before .before .before .before .before .before .before .before .before .before .before .before .before .before .before .before .before .before .before .before .before .before .before .before .before .args .chip) (phased (t .s) (t .last)) (c .before .before .before .before .before .before .before .before .before .before .before .before .before .before .before .before .before .shift-in2 .result))
+    → let t = c .before .before .before .before .before .before .before .before .before .before .before .before .before .before .before .before .before .before .before .before .before .before .before .before .before .before .before .before .before .before .loop in
+    c .if10 .s ≡ settled (t .s) (settingsOnByte (c .before .before .before .before .before .before .before .before .before .before .before .before .before .before .before .before .before .before .before .before .before .before .before .before .before .before .before .before .before .before .before .before .before .before .before .before .before .before .before .before .before .before .args .chip) (phased (t .s) (t .last)) (c .before .before .before .before .before .before .before .before .before .before .before .before .before .before .before .before .before .shift-in2 .result))
 settled-is c =
-    let s = c .before .before .before .before .before .before .before .before .before .before .before .before .before .before .before .before .before .before .before .before .before .before .before .before .before .before .before .before .before .loop .s in
+    let s = c .before .before .before .before .before .before .before .before .before .before .before .before .before .before .before .before .before .before .before .before .before .before .before .before .before .before .before .before .before .before .loop .s in
     ⊎-elim (λ w. w .3 ∙ ap (settled s) (settings-changed (s .settings) _ (s .read) _ (w .0 .taken) ∙ ap (λ (u : Settings). cond (s .read) (s .settings) u) (w .2 .ensures)))
-    (λ w. w .1 ∙ ap (settled s) (settings-kept (c .before .before .before .before .before .before .before .before .before .before .before .before .before .before .before .before .before .before .before .before .before .before .before .before .before .before .before .before .before .before .before .before .before .before .before .before .before .before .before .before .before .args .chip) (s .settings) (s .read) (s .address) _ (w .0 .left) (omega arith)))
+    (λ w. w .1 ∙ ap (settled s) (settings-kept (c .before .before .before .before .before .before .before .before .before .before .before .before .before .before .before .before .before .before .before .before .before .before .before .before .before .before .before .before .before .before .before .before .before .before .before .before .before .before .before .before .before .before .args .chip) (s .settings) (s .read) (s .address) _ (w .0 .left) (omega arith)))
     (c .if10 .came)
 
 near : (c : tie.Joined10 Inv-loop μ-loop) → c .if10 .s .address < 0x8000
-near c = subst (λ (q : Port). q .address < 0x8000) (sym (settled-is c)) (fit-sound _ _ (c .before .before .before .before .before .before .before .before .before .before .before .before .before .before .before .before .before .before .before .before .before .before .before .before .before .before .before .before .before .loop .inv .2 .counting .sound) .near)
+near c = subst (λ (q : Port). q .address < 0x8000) (sym (settled-is c)) (fit-sound _ _ (c .before .before .before .before .before .before .before .before .before .before .before .before .before .before .before .before .before .before .before .before .before .before .before .before .before .before .before .before .before .before .loop .inv .2 .counting .sound) .near)
 
 loop-less-7 : tie.Need-loop-less-7 Inv-loop μ-loop
 loop-less-7 c = turn-less (c .before .before .before .before .before .before .before .before .before .before .before .before .before .before .before .before .before .before .before .before .before .before .before .before .before .before .before .before .before .before)
@@ -260,7 +262,7 @@ loop-again-7 c =
     let e = q .before .before .before .before .before .before .before .before .before .before .before in
     let b = e .before .before .before .before .before .before in
     let k = b .before .before .before .before .before .before .before .before .before in
-    let r = byte-on e _ (stop-single (stopped k) (b .before .before .before .before .before .before .before .if1 .left) (b .before .before .before .before .before .if2 .left) (b .before .before .before .before .if4 .left) (b .before .before .if9 .taken) _ (byte-is b) (settled-is q) (sym (k .before .before .before .before .before .before .is-newer .ensures) ∙ c .before .before .before .before .before .if11 .taken) (c .before .before .before .before .if12 .taken)) in
+    let r = byte-on e _ (stop-single (stopped k) (b .before .before .before .before .before .before .before .if1 .left) (b .before .before .before .before .before .if2 .left) (b .before .before .before .before .if4 .left) (b .before .before .if9 .taken) _ (byte-is b) (settled-is q) (sym (k .before .before .before .before .before .before .before .is-newer .ensures) ∙ c .before .before .before .before .before .if11 .taken) (c .before .before .before .before .if12 .taken)) in
     (r .0, refl, r .1, refl)
 
 next-address-requires : tie.Need-next-address-requires Inv-loop μ-loop
@@ -275,9 +277,9 @@ loop-again-8 c =
     let e = q .before .before .before .before .before .before .before .before .before .before .before in
     let b = e .before .before .before .before .before .before in
     let k = b .before .before .before .before .before .before .before .before .before in
-    let r = byte-on e _ (stop-next (stopped k) (b .before .before .before .before .before .before .before .if1 .left) (b .before .before .before .before .before .if2 .left) (b .before .before .before .before .if4 .left) (b .before .before .if9 .taken) _ (byte-is b) (settled-is q) (sym (k .before .before .before .before .before .before .is-newer .ensures) ∙ c .before .before .if11 .taken) _ (c .before .if12 .left, c .next-address .ensures)) in
-    let t = k .before .before .before .loop in
-    (r .0, t .inv .1, r .1, line-kept (k .before .before .before .before .before .before .before .before .before .before .before .before .before .before .before .args .chip) (t .s) (t .last) (settled-is q) (t .inv .3))
+    let r = byte-on e _ (stop-next (stopped k) (b .before .before .before .before .before .before .before .if1 .left) (b .before .before .before .before .before .if2 .left) (b .before .before .before .before .if4 .left) (b .before .before .if9 .taken) _ (byte-is b) (settled-is q) (sym (k .before .before .before .before .before .before .before .is-newer .ensures) ∙ c .before .before .if11 .taken) _ (c .before .if12 .left, c .next-address .ensures)) in
+    let t = k .before .before .before .before .loop in
+    (r .0, t .inv .1, r .1, line-kept (k .before .before .before .before .before .before .before .before .before .before .before .before .before .before .before .before .args .chip) (t .s) (t .last) (settled-is q) (t .inv .3))
 
 runs-out-requires : tie.Need-runs-out-requires Inv-loop μ-loop
 runs-out-requires c κs = search needs
@@ -297,9 +299,9 @@ loop-again-9 c =
     let e = q .before .before .before .before .before .before .before .before .before .before .before in
     let b = e .before .before .before .before .before .before in
     let k = b .before .before .before .before .before .before .before .before .before in
-    let r = byte-on e _ (stop-run (stopped k) (b .before .before .before .before .before .before .before .if1 .left) (b .before .before .before .before .before .if2 .left) (b .before .before .before .before .if4 .left) (b .before .before .if9 .taken) _ (byte-is b) (settled-is q) (sym (k .before .before .before .before .before .before .is-newer .ensures) ∙ c .before .before .before .before .if11 .left) _ _ (sym (c .before .before .before .runs-out .ensures) ∙ not-true _ (c .before .before .if13 .taken), c .before .next-address2 .ensures, c .left-after .ensures)) in
-    let t = k .before .before .before .loop in
-    (r .0, t .inv .1, r .1, line-kept (k .before .before .before .before .before .before .before .before .before .before .before .before .before .before .before .args .chip) (t .s) (t .last) (settled-is q) (t .inv .3))
+    let r = byte-on e _ (stop-run (stopped k) (b .before .before .before .before .before .before .before .if1 .left) (b .before .before .before .before .before .if2 .left) (b .before .before .before .before .if4 .left) (b .before .before .if9 .taken) _ (byte-is b) (settled-is q) (sym (k .before .before .before .before .before .before .before .is-newer .ensures) ∙ c .before .before .before .before .if11 .left) _ _ (sym (c .before .before .before .runs-out .ensures) ∙ not-true _ (c .before .before .if13 .taken), c .before .next-address2 .ensures, c .left-after .ensures)) in
+    let t = k .before .before .before .before .loop in
+    (r .0, t .inv .1, r .1, line-kept (k .before .before .before .before .before .before .before .before .before .before .before .before .before .before .before .before .args .chip) (t .s) (t .last) (settled-is q) (t .inv .3))
 
 loop-less-10 : tie.Need-loop-less-10 Inv-loop μ-loop
 loop-less-10 c = turn-less (c .before .before .before .before .before)
@@ -307,7 +309,7 @@ loop-less-10 c = turn-less (c .before .before .before .before .before)
 loop-again-10 : tie.Need-loop-again-10 Inv-loop μ-loop
 loop-again-10 c =
     let k = c .before .before .before .before .before .before .before in
-    let t = k .before .before .before .loop in
+    let t = k .before .before .before .before .loop in
     (t .inv .0, t .inv .1, stop-passes (stopped k) (c .before .before .before .before .before .if1 .left) (c .before .before .before .if2 .left) (c .before .before .if4 .left) (c .before .if6 .left) (c .if9 .left), t .inv .3)
 
 loop-less-11 : tie.Need-loop-less-11 Inv-loop μ-loop
@@ -316,7 +318,7 @@ loop-less-11 c = turn-less (c .before .before .before .before .before .before .b
 -- where the ways to rest meet
 abbrev Rests : tie.Else2 Inv-loop μ-loop → List ℕ → List ℕ → List ℕ → List ℕ → Port → Bool → ℕ → Type 0
 Rests c active buffer words records s armed at =
-    let a = c .before .before .before .before .before .before .before .before .before .before .before .before .before .before .before .before .before .before .before .args in
+    let a = c .before .before .before .before .before .before .before .before .before .before .before .before .before .before .before .before .before .before .before .before .args in
     ((length active ≡ length (a .active .now)) × (length buffer ≡ length (a .buffer .now)) × (length words ≡ length (a .words .now)) × (length records ≡ length (a .records .now)))
     × Running (a .chip) (a .storing) (a .map .now) (a .samples .now) (readerState (a .session) (a .active .now) (a .buffer .now) (a .words .now)) (readerStateOf (idle (s .csb) (s .sclk) (s .settings)) armed active buffer words) (a .records .now) records at (c .before .before .before .before .next-stop .result .at + 1)
 
@@ -331,8 +333,8 @@ rested c =
     let k = here .before .before .before .before in
     let h = here .before .before .if1 .left in
     let down = here .if2 .left in
-    let t = k .before .before .before .loop in
-    let n = k .before .before .before .before .before .before .is-newer .ensures in
+    let t = k .before .before .before .before .loop in
+    let n = k .before .before .before .before .before .before .before .is-newer .ensures in
     ⊎-elim (λ w.
     let l = w .9 .kept .1 .1 .1 in
     meet (Rests here) (w .18) (w .19) (w .20) (w .21) (w .22) (w .23) (w .24) (
@@ -347,7 +349,7 @@ rested c =
     ))
     (λ w.
     let v : tie.After-shift-in2 Inv-loop μ-loop = record { before = record { before = record { before = record { before = record { before = here; if4 = w .0 }; if6 = w .1 }; if9 = w .2 }; bit-at4 = w .3 }; shift-in2 = w .4 } in
-    let e : tie.After-pass-event Inv-loop μ-loop = record { before = record { before = record { before = record { before = record { before = record { before = v; settings2 = w .5 }; pass-event-arg = w .6 }; pass-event-arg2 = w .7 }; pass-event-arg3 = w .8 }; pass-event-arg4 = w .9 }; pass-event = w .10 } in
+    let e : tie.After-pass-byte Inv-loop μ-loop = record { before = record { before = record { before = record { before = record { before = record { before = v; settings2 = w .5 }; pass-byte-arg = w .6 }; pass-byte-arg2 = w .7 }; pass-byte-arg3 = w .8 }; pass-byte-arg4 = w .9 }; pass-byte = w .10 } in
     let q : tie.Joined10 Inv-loop μ-loop = record { before = record { before = record { before = record { before = record { before = record { before = record { before = record { before = record { before = record { before = record { before = e; active2 = w .11 }; slice-known9 = w .12 }; buffer2 = w .13 }; slice-known10 = w .14 }; words2 = w .15 }; slice-known11 = w .16 }; records2 = w .17 }; slice-known12 = w .18 }; struct-known5 = w .19 }; struct-known6 = w .20 }; if10 = w .21 } in
     meet (Rests here) (w .25) (w .26) (w .27) (w .28) (w .29) (w .30) (w .31)
     (byte-on e _ (stop-run-ends (stopped k) h down (w .0 .left) (w .2 .taken) _ (byte-is v) (settled-is q) (sym n ∙ w .22 .left) (sym (w .23 .ensures) ∙ not-false _ (w .24 .left))))))
@@ -413,7 +415,7 @@ run-samples-spec =
     bit-at-requires-4
     shift-in-requires-2
     cast-byte
-    pass-event-requires
+    pass-byte-requires
     after-requires
     loop-less-7
     loop-again-7

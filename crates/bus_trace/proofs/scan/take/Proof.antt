@@ -10,10 +10,10 @@ use Rattle.bus_trace.proofs.scan.take.Statement.{statement}
 use Rattle.bus_trace.proofs.scan.take.Tie as tie
 
 abbrev Inv-loop : tie.InvT-loop
-Inv-loop samples line lsb last p₀ p = Going samples line lsb last p₀ p
+Inv-loop card samples line lsb last p₀ p = Going samples line lsb last p₀ p
 
 abbrev μ-loop : tie.MeasureT-loop
-μ-loop samples line lsb last p₀ p = length samples - p .at
+μ-loop card samples line lsb last p₀ p = length samples - p .at
 
 loop-holds : tie.Need-loop-holds Inv-loop μ-loop
 loop-holds c = going-begun (c .before .pre .0)
@@ -45,7 +45,7 @@ four-bits-requires c κs = search needs
 with-four-requires : tie.Need-with-four-requires Inv-loop μ-loop
 with-four-requires c κs =
     let s = c .before .before .before .before .before .before .before .before .before .before .before .loop .inv .standing in
-    (s .small, omega (arith, c .before .if4 .left, s .short), word-nibble-lt _ (c .before .before .before .before .before .before .before .before .word-at .result) (c .before .before .before .before .before .before .before .before .before .before .before .before .before .args .line) (c .four-bits .ensures))
+    (s .small, omega (arith, c .before .if4 .left, s .short), word-nibble-lt _ (c .before .before .before .before .before .before .before .before .word-at .result) (c .before .before .before .before .before .before .before .before .before .before .before .before .before .args .line) (c .four-bits .ensures), c .before .before .before .before .before .before .before .before .before .before .before .before .before .pre .2)
 
 four-bits-requires-2 : tie.Need-four-bits-requires-2 Inv-loop μ-loop
 four-bits-requires-2 c κs = search needs
@@ -60,10 +60,10 @@ with-three-requires : tie.Need-with-three-requires Inv-loop μ-loop
 with-three-requires c κs =
     let s = half (λ k. c .before .before .before .before .before .before .before .before .before .before .before .before .before .before .before .before .before .shared-slice-known .given k .fits) (c .before .before .before .before .before .before .before .before .before .before .before .before .before .before .before .before .before .before .pre .1) (c .before .before .before .before .before .before .before .before .before .before .before .before .before .before .before .before .loop .inv) (omega (arith, c .before .before .before .before .before .before .before .before .before .before .before .before .before .before .if1 .taken, c .before .before .before .before .before .before .before .before .before .before .before .before .before .before .before .before .loop .inv .standing .within)) (c .before .before .before .before .before .before .before .before .before .before .before .before .before .word-at .ensures) (c .before .before .before .before .before .before .before .before .before .before .word-at2 .ensures)
     (sym (c .before .before .before .before .before .before .before .before .before .before .before .before .levels .ensures) ∙ c .before .before .before .before .before .before .before .before .before .before .before .if2 .left) (sym (c .before .before .before .before .before .before .before .before .before .levels2 .ensures) ∙ c .before .before .before .before .before .before .before .before .if3 .left) (c .before .before .before .before .before .before .if4 .left) (c .before .before .before .before .before .four-bits .ensures) (c .before .before .before .before .with-four .ensures) .standing in
-    (s .small, omega (arith, c .before .before .before .before .before .before .if4 .left, s .short), word-nibble-lt _ (c .before .before .before .before .before .before .before .before .before .before .word-at2 .result) (c .before .before .before .before .before .before .before .before .before .before .before .before .before .before .before .before .before .before .args .line) (c .before .before .before .four-bits2 .ensures))
+    (s .small, omega (arith, c .before .before .before .before .before .before .if4 .left, s .short), word-nibble-lt _ (c .before .before .before .before .before .before .before .before .before .before .word-at2 .result) (c .before .before .before .before .before .before .before .before .before .before .before .before .before .before .before .before .before .before .args .line) (c .before .before .before .four-bits2 .ensures), c .before .before .before .before .before .before .before .before .before .before .before .before .before .before .before .before .before .before .pre .2)
 
-add-t19 : tie.Need-add-t19 Inv-loop μ-loop
-add-t19 c = omega (arith, c .before .before .before .before .before .before .before .before .before .before .before .before .before .before .before .if1 .taken, c .before .before .before .before .before .before .before .before .before .before .before .before .before .before .before .before .before .loop .inv .standing .within)
+add-t20 : tie.Need-add-t20 Inv-loop μ-loop
+add-t20 c = omega (arith, c .before .before .before .before .before .before .before .before .before .before .before .before .before .before .before .if1 .taken, c .before .before .before .before .before .before .before .before .before .before .before .before .before .before .before .before .before .loop .inv .standing .within, c .before .before .before .before .before .before .before .before .before .before .before .before .before .before .before .before .before .before .before .good)
 
 returns : tie.Need-returns Inv-loop μ-loop
 returns c =
@@ -79,13 +79,13 @@ with-four-requires-2 c κs =
     let s = half (λ k. c .before .before .before .before .before .before .before .before .before .before .before .before .before .before .before .before .before .shared-slice-known .given k .fits) (c .before .before .before .before .before .before .before .before .before .before .before .before .before .before .before .before .before .before .pre .1) (c .before .before .before .before .before .before .before .before .before .before .before .before .before .before .before .before .loop .inv) (omega (arith, c .before .before .before .before .before .before .before .before .before .before .before .before .before .before .if1 .taken, c .before .before .before .before .before .before .before .before .before .before .before .before .before .before .before .before .loop .inv .standing .within)) (c .before .before .before .before .before .before .before .before .before .before .before .before .before .word-at .ensures) (c .before .before .before .before .before .before .before .before .before .before .word-at2 .ensures)
     (sym (c .before .before .before .before .before .before .before .before .before .before .before .before .levels .ensures) ∙ c .before .before .before .before .before .before .before .before .before .before .before .if2 .left) (sym (c .before .before .before .before .before .before .before .before .before .levels2 .ensures) ∙ c .before .before .before .before .before .before .before .before .if3 .left) (c .before .before .before .before .before .before .if4 .left) (c .before .before .before .before .before .four-bits .ensures) (c .before .before .before .before .with-four .ensures) .standing in
     let n = c .before .if5 .left in
-    (s .small, omega (arith, n, c .before .before .before .before .before .before .if4 .left, s .short), word-nibble-lt _ (c .before .before .before .before .before .before .before .before .before .before .word-at2 .result) (c .before .before .before .before .before .before .before .before .before .before .before .before .before .before .before .before .before .before .args .line) (c .before .before .before .four-bits2 .ensures))
+    (s .small, omega (arith, n, c .before .before .before .before .before .before .if4 .left, s .short), word-nibble-lt _ (c .before .before .before .before .before .before .before .before .before .before .word-at2 .result) (c .before .before .before .before .before .before .before .before .before .before .before .before .before .before .before .before .before .before .args .line) (c .before .before .before .four-bits2 .ensures), c .before .before .before .before .before .before .before .before .before .before .before .before .before .before .before .before .before .before .pre .2)
 
 add-p : tie.Need-add-p Inv-loop μ-loop
 add-p c = let s = c .before .before .before .before .before .before .before .before .before .before .before .before .before .before .before .before .before .before .loop .inv .standing in omega (arith, s .few, s .short)
 
 add-p-2 : tie.Need-add-p-2 Inv-loop μ-loop
-add-p-2 c = omega (arith, c .before .before .before .before .before .before .before .before .before .before .before .before .before .before .before .before .if1 .taken, c .before .before .before .before .before .before .before .before .before .before .before .before .before .before .before .before .before .before .loop .inv .standing .within)
+add-p-2 c = omega (arith, c .before .before .before .before .before .before .before .before .before .before .before .before .before .before .before .before .if1 .taken, c .before .before .before .before .before .before .before .before .before .before .before .before .before .before .before .before .before .before .loop .inv .standing .within, c .before .before .before .before .before .before .before .before .before .before .before .before .before .before .before .before .before .before .before .before .good)
 
 loop-less : tie.Need-loop-less Inv-loop μ-loop
 loop-less c = omega (arith, c .before .before .before .before .before .before .before .before .before .before .before .before .before .before .before .before .if1 .taken, c .before .before .before .before .before .before .before .before .before .before .before .before .before .before .before .before .before .before .loop .inv .standing .within)
@@ -122,7 +122,7 @@ take-spec =
     add-if5
     add-with-three
     with-three-requires
-    add-t19
+    add-t20
     returns
     add-with-four
     with-four-requires-2

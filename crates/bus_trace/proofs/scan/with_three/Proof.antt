@@ -11,11 +11,11 @@ use borrow.Author.Needs.{needs}
 use Rattle.bus_trace.proofs.scan.with_three.Statement.{statement}
 use Rattle.bus_trace.proofs.scan.with_three.Tie as tie
 
-mul-turn : tie.Need-mul-turn
-mul-turn c = search needs
+mul-turn-by : tie.Need-mul-turn-by
+mul-turn-by c = search needs
 
-turn-requires : tie.Need-turn-requires
-turn-requires c κs = search needs
+turn-by-requires : tie.Need-turn-by-requires
+turn-by-requires c κs = search needs
 
 cast-result : tie.Need-cast-result
 cast-result c = search needs
@@ -26,16 +26,16 @@ shl-result c = search needs
 add-result : tie.Need-add-result
 add-result c =
     let a = c .before .before in
-    let small : c .turn .result % 8 < 16 = omega (arith, c .turn .ensures, turned-lt (a .args .more) (a .pre .2)) in
-    rw (shl-exact 4 (a .args .bits) 16 small (omega (arith, a .pre .1))) (record { fits = above-fits (c .turn .result % 8) (a .args .value) (a .args .bits) small (a .pre .0) (a .pre .1) })
+    let small : c .turn-by .result % 8 < 16 = omega (arith, c .turn-by .ensures, turned-lt (a .args .more) (a .pre .2)) in
+    rw (shl-exact 4 (a .args .bits) 16 small (omega (arith, a .pre .1))) (record { fits = above-fits (c .turn-by .result % 8) (a .args .value) (a .args .bits) small (a .pre .0) (a .pre .1) })
 
 returns : tie.Need-returns
 returns c =
     let a = c .before .before in
-    let small : c .turn .result % 8 < 16 = omega (arith, c .turn .ensures, turned-lt (a .args .more) (a .pre .2)) in
+    let small : c .turn-by .result % 8 < 16 = omega (arith, c .turn-by .ensures, turned-lt (a .args .more) (a .pre .2)) in
     λ w x y z e.
     ap (λ (k : ℕ). a .args .value + k) (shl-exact 4 (a .args .bits) 16 small (omega (arith, a .pre .1)))
-    ∙ ap (λ (k : ℕ). a .args .value + k % 8 * 2 ^ a .args .bits) (c .turn .ensures ∙ ap (λ (k : ℕ). turned 8 (k * 16)) e)
+    ∙ ap (λ (k : ℕ). a .args .value + k % 8 * 2 ^ a .args .bits) (c .turn-by .ensures ∙ ap (λ (k : ℕ). turned 8 (k * 16)) e)
     ∙ low-three (a .args .value) (a .args .bits) w x y z
     ∙ ap (λ (l : Bool). shiftedThree l (a .args .value) (a .args .bits) w x y) (sym (c .before .if1 .taken))
 
@@ -57,8 +57,8 @@ pub with-three-spec : {M : Type 1} → statement M
 with-three-spec =
     tie.close
     (tie.spec
-    mul-turn
-    turn-requires
+    mul-turn-by
+    turn-by-requires
     cast-result
     shl-result
     add-result

@@ -1,0 +1,82 @@
+-- `take_byte` meets its contract: a byte that is read has one law, and one that is written another.
+use borrow.Author.Needs.{needs}
+use native.Mathlib.Omega.{arith}
+use mathlib.Core.Path.{refl}
+use Rattle.read_records.proofs.Taking.{room-for, has-bit, took-read, took-write}
+use Rattle.read_records.proofs.take_byte.Statement.{statement}
+use Rattle.read_records.proofs.take_byte.Tie as tie
+
+due-byte-requires : tie.Need-due-byte-requires
+due-byte-requires c κs = search needs
+
+put-read-requires : tie.Need-put-read-requires
+put-read-requires c κs = room-for (c .before .before .before .before .before .before .before .before .before .before .pre) refl
+
+add-t24 : tie.Need-add-t24
+add-t24 c = search needs
+
+same-length : tie.Need-same-length
+same-length c = search needs
+
+same-length-2 : tie.Need-same-length-2
+same-length-2 c = search needs
+
+same-length-3 : tie.Need-same-length-3
+same-length-3 c = search needs
+
+returns : tie.Need-returns
+returns c = took-read (c .before .before .before .before .before .before .before .if1 .taken) (c .before .before .before .before .due-byte .ensures) (c .before .before .put-read .ensures)
+
+write-requires : tie.Need-write-requires
+write-requires c κs = search needs
+
+touch-written-requires : tie.Need-touch-written-requires
+touch-written-requires c κs = has-bit (c .before .before .before .before .before .before .before .before .before .before .before .before .before .before .pre) (c .before .before .before .before .before .write .ensures)
+
+put-write-requires : tie.Need-put-write-requires
+put-write-requires c κs = room-for (c .before .before .before .before .before .before .before .before .before .before .before .before .before .before .before .before .before .before .pre) refl
+
+armed-on-requires : tie.Need-armed-on-requires
+armed-on-requires c κs = search needs
+
+add-t34 : tie.Need-add-t34
+add-t34 c = omega (arith, room-for (c .before .before .before .before .before .before .before .before .before .before .before .before .before .before .before .before .before .before .before .before .before .before .pre) refl, c .before .before .before .before .before .before .before .before .before .before .before .before .before .before .before .before .before .before .before .before .before .before .good)
+
+same-length-4 : tie.Need-same-length-4
+same-length-4 c = search needs
+
+same-length-5 : tie.Need-same-length-5
+same-length-5 c = search needs
+
+same-length-6 : tie.Need-same-length-6
+same-length-6 c = search needs
+
+same-length-7 : tie.Need-same-length-7
+same-length-7 c = search needs
+
+returns-2 : tie.Need-returns-2
+returns-2 c =
+    let w = c .before .before .before .before .before .before .before .before .before .before .before .before .before in
+    took-write (c .before .before .before .before .before .before .before .before .before .before .before .before .before .before .before .before .if1 .left) (w .write .ensures) (c .before .before .before .before .before .before .before .touch-written .ensures) (c .before .before .before .put-write .ensures) (c .armed-on .ensures)
+
+pub take-byte-spec : {M : Type 1} → statement M
+take-byte-spec =
+    tie.close
+    (tie.spec
+    due-byte-requires
+    put-read-requires
+    add-t24
+    same-length
+    same-length-2
+    same-length-3
+    returns
+    write-requires
+    touch-written-requires
+    put-write-requires
+    armed-on-requires
+    add-t34
+    same-length-4
+    same-length-5
+    same-length-6
+    same-length-7
+    returns-2)
