@@ -2,6 +2,7 @@
 use mathlib.Core.Path.{_≡_, refl, sym, _∙_}
 use mathlib.Core.Bool.{Bool, true, false, cond, _&&_, _||_, false≢true, true≢false, and-assoc, and-true}
 use mathlib.Core.List.{List, [], _∷_}
+use mathlib.Core.Logic.{_⊎_, inl, inr}
 use Rattle.base_bits.specs.Tests.{every}
 
 -- the test holds
@@ -33,6 +34,10 @@ pub or-right : (a b : Bool) → (a || b) ≡ false → b ≡ false
 or-right true b h = absurd (true≢false h)
 or-right false b h = h
 
+pub or-cases : (a b : Bool) → (a || b) ≡ true → (a ≡ true) ⊎ (b ≡ true)
+or-cases true b h = inl refl
+or-cases false b h = inr h
+
 -- each test of a list, as a product
 abbrev pub AllTrue : List Bool → Type 0
 AllTrue [] = Unit {0}
@@ -44,11 +49,11 @@ every-true [] h = tt
 every-true (t ∷ ts) h = (and-left t (every ts) h, every-true ts (and-right t (every ts) h))
 
 -- tests that code joins by `&`, from the left
-abbrev joined : Bool → List Bool → Bool
-joined t [] = t
-joined t (u ∷ us) = joined (t && u) us
+abbrev joinedTests : Bool → List Bool → Bool
+joinedTests t [] = t
+joinedTests t (u ∷ us) = joinedTests (t && u) us
 
-pub joined-every : (t : Bool) (us : List Bool) → joined t us ≡ (t && every us)
+pub joined-every : (t : Bool) (us : List Bool) → joinedTests t us ≡ (t && every us)
 unfolding every
 joined-every t [] = sym (and-true t)
 joined-every t (u ∷ us) = joined-every (t && u) us ∙ and-assoc t u (every us)

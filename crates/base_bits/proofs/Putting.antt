@@ -1,11 +1,12 @@
 -- Bytes that are put into a buffer piece by piece.
 use mathlib.Core.Path.{_≡_, refl, sym, _∙_, ap}
-use mathlib.Core.List.{List, [], _++_}
-use Prim.Native.Nat.{ℕ, _+_, _≤_}
+use mathlib.Core.List.{List, [], _∷_, _++_}
+use Prim.Native.Nat.{ℕ, _+_, _≤_, _<_}
 use native.Mathlib.Omega.{arith}
+use native.Mathlib.Numerals.{add-one}
 use native.Mathlib.Nat.{add-assoc}
-use lib.ListN.{length, length-append}
-use lib.Seq.{sets, length-sets}
+use lib.ListN.{length, getD, drop, length-append}
+use lib.Seq.{sets, length-sets, drop-cons}
 use Rattle.base_bits.specs.Buffer.{filled, Put}
 use Rattle.base_bits.proofs.Buffer.{sets-append, sets-filled}
 
@@ -33,6 +34,10 @@ begun old at all h = record { same = refl; room = h; place = refl; whole = refl 
 -- what is to be put next, and what is left then
 pub record Splits (rest next more : List ℕ) : Type 0 where
   pub split : rest ≡ next ++ more
+
+-- the next byte of a list, and those after it
+pub next-byte : (l : List ℕ) (i : ℕ) → i < length l → Splits (drop i l) (getD l i 0 ∷ []) (drop (i + 1) l)
+next-byte l i h = record { split = rw add-one (drop-cons l i 0 h) }
 
 module _ {old new all rest : List ℕ} {at n : ℕ} (k : Putting old at all rest n new) where
   pub next-fits : {next more : List ℕ} → Splits rest next more → n + length next ≤ length new

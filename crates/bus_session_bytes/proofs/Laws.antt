@@ -41,8 +41,8 @@ phase-small Rest = refl
 phase-small Instruction = refl
 phase-small Data = refl
 
-word-back : (x : ℕ) → wordOfBytes (x / 256) (x % 256) ≡ x
-word-back x = omega arith
+halves-back : (x : ℕ) → wordOfBytes (x / 256) (x % 256) ≡ x
+halves-back x = omega arith
 
 -- The bytes of a session are one.
 pub bytes-are : (s : Session) → areSession (sessionBytes s) ≡ true
@@ -52,7 +52,7 @@ bytes-are s = simp (flag-small, phase-small)
 -- Every session goes to bytes and back unchanged.
 pub session-back : (s : Session) → sessionOf (sessionBytes s) ≡ s
 unfolding sessionOf sessionBytes
-session-back s = simp (flag-back, phase-back, word-back)
+session-back s = simp (flag-back, phase-back, halves-back)
 
 -- from a byte to its field and back
 bit-back : (x : ℕ) → leb x 1 ≡ true → bitOf (eqb x 1) ≡ x
@@ -73,18 +73,18 @@ low-back : (high low : ℕ) → low < 256 → wordOfBytes high low % 256 ≡ low
 low-back high low h = omega arith
 
 -- n bytes of a list from place i on
-listed : ℕ → List ℕ → ℕ → List ℕ
-listed zero b i = []
-listed (suc n) b i = getD b i 0 ∷ listed n b (suc i)
+byByte : ℕ → List ℕ → ℕ → List ℕ
+byByte zero b i = []
+byByte (suc n) b i = getD b i 0 ∷ byByte n b (suc i)
 
-all-listed : (n : ℕ) (b : List ℕ) (i : ℕ) → length b ≡ i + n → drop i b ≡ listed n b i
-unfolding listed
-all-listed zero b i e = drop-of-length-le b {i = i} (omega arith)
-all-listed (suc n) b i e = drop-cons b i 0 (omega arith) ∙ ap (λ (l : List ℕ). getD b i 0 ∷ l) (all-listed n b (suc i) (omega arith))
+all-by-byte : (n : ℕ) (b : List ℕ) (i : ℕ) → length b ≡ i + n → drop i b ≡ byByte n b i
+unfolding byByte
+all-by-byte zero b i e = drop-of-length-le b {i = i} (omega arith)
+all-by-byte (suc n) b i e = drop-cons b i 0 (omega arith) ∙ ap (λ (l : List ℕ). getD b i 0 ∷ l) (all-by-byte n b (suc i) (omega arith))
 
 -- Bytes that are a session come back from it unchanged.
 pub bytes-back : (b : List ℕ) → areSession b ≡ true → ((i : ℕ) → getD b i 0 < 256) → sessionBytes (sessionOf b) ≡ b
-unfolding areSession sessionOf sessionBytes listed
+unfolding areSession sessionOf sessionBytes byByte
 bytes-back b h small =
     let t = every-true (eqb (length b) sessionSize ∷ fieldTests b) h in
     let f = t .1 .1 in
@@ -99,4 +99,4 @@ bytes-back b h small =
     ∷ bit-back (at 13) (g .1 .1 .1 .1 .0) i ∷ bit-back (at 14) (g .1 .1 .1 .1 .1 .0) i
     ∷ bit-back (at 15) (u .0) i ∷ bit-back (at 16) (u .1 .0) i ∷ bit-back (at 17) (u .1 .1 .0) i ∷ bit-back (at 18) (u .1 .1 .1 .0) i
     ∷ at 19 ∷ bit-back (at 20) (u .1 .1 .1 .1 .0) i ∷ [])
-    ∙ sym (all-listed sessionSize b 0 (eqb-true (length b) sessionSize (t .0)))
+    ∙ sym (all-by-byte sessionSize b 0 (eqb-true (length b) sessionSize (t .0)))

@@ -2,9 +2,10 @@
 use Prim.Native.Nat.{ℕ, _+_, _*_, _/_, _%_}
 use mathlib.Core.Bool.{Bool, cond}
 use mathlib.Core.List.{List, [], _∷_, _++_}
-use lib.ListN.{length, getD}
+use lib.ListN.{length}
 use lib.Dec.{eqb, leb}
 use Rattle.base_bits.specs.Bits.{bitOf}
+use Rattle.base_bits.specs.Bytes.{byteAt}
 use Rattle.base_bits.specs.Tests.{every}
 use Rattle.bus_settings.specs.declared.Settings.{Settings}
 use Rattle.bus_settings.specs.declared.InUse.{InUse}
@@ -50,10 +51,6 @@ portBytes p =
 -- The bytes of a session: the version, its port, and whether it is armed.
 unfoldable pub sessionBytes : Session → List ℕ
 sessionBytes s = layoutVersion ∷ portBytes (s .port) ++ (bitOf (s .armed) ∷ [])
-
--- the byte at a place
-abbrev byteAt : List ℕ → ℕ → ℕ
-byteAt b i = getD b i 0
 
 -- this version, a phase of 0 to 2, and flags of 0 or 1
 abbrev pub fieldTests : List ℕ → List Bool

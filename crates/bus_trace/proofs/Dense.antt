@@ -21,7 +21,8 @@ use Rattle.bus_words.proofs.Seconds.{lane-bit}
 use Rattle.bus_trace.specs.declared.scan.Progress.{Progress}
 use Rattle.bus_trace.specs.declared.scan.Bits.{Bits}
 use Rattle.bus_trace.specs.Scan.{progress, ProgressBounds, LowScanAfter, RisesAhead, LanesTaken, BitsAfter, shiftedThree, shiftedFour}
-use Rattle.bus_trace.proofs.Onward.{taken, Going, going-begun, going-join, took-join, took-rise, word-passed, gathered-begun, next-rise, gathered-more}
+use Rattle.bus_trace.proofs.Onward.{Going, going-begun, going-join, took-join}
+use Rattle.bus_trace.proofs.Lanes.{taken, took-rise, word-passed, gathered-begun, next-rise, gathered-more}
 
 -- ---- the value
 

@@ -17,9 +17,9 @@ use Rattle.bus_session.specs.Event.{bitEvent, eventOf}
 use Rattle.bus_session.proofs.Laws.{entered-settings}
 use Rattle.bus_trace.specs.Path.{Quiet, still, more, happens}
 
-pub joined : {c : Chip} {xs : List ℕ} {s t u : Port} {i j k : ℕ} → Quiet c xs s i t j → Quiet c xs t j u k → Quiet c xs s i u k
-joined p still = p
-joined p (more q h e) = more (joined p q) h e
+pub paths-joined : {c : Chip} {xs : List ℕ} {s t u : Port} {i j k : ℕ} → Quiet c xs s i t j → Quiet c xs t j u k → Quiet c xs s i u k
+paths-joined p still = p
+paths-joined p (more q h e) = more (paths-joined p q) h e
 
 module _ (c : Chip) where
   -- a byte of data that is not whole

@@ -28,7 +28,7 @@ use Rattle.bus_words.specs.Lanes.{clockOf}
 use Rattle.bus_trace.specs.Path.{Quiet, still, more}
 use Rattle.bus_trace.specs.Progress.{withProgress, lastOf, sourceLine, SoundProgress, Reached}
 use Rattle.bus_trace.specs.Scan.{progress, levelAfter}
-use Rattle.bus_trace.proofs.Paths.{joined}
+use Rattle.bus_trace.proofs.Paths.{paths-joined}
 
 -- the levels of a sample, by its two lowest bits
 pub csb-low : (x : ℕ) → x % 2 ≡ 0 → csbOf x ≡ false
@@ -238,5 +238,5 @@ module _ (c : Chip) where
     ahead = omega (arith, r .ahead, t .ahead);
     within = t .within;
     good = record { even = t .good .even; level = t .good .level; sound = t .good .sound };
-    path = joined (r .path) (t .path);
+    path = paths-joined (r .path) (t .path);
   }

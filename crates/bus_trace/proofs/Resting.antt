@@ -12,7 +12,7 @@ use Rattle.bus_words.proofs.Lanes.{clock-mask, lows-all, lows-full, lows-le}
 use Rattle.bus_words.proofs.Samples.{others, falls-high, falls-low, high-more, high-none}
 use Rattle.bus_trace.specs.declared.high.Past.{Past}
 use Rattle.bus_trace.specs.Scan.{levelAfter, Rested}
-use Rattle.bus_trace.proofs.Onward.{level-join, level-good, level-word}
+use Rattle.bus_trace.proofs.Lanes.{level-join, level-good, level-word}
 
 abbrev pub past : ℕ → ℕ → Past
 past place level = record { at = place; level = level }

@@ -16,7 +16,7 @@ use Rattle.bus_session.proofs.Laws.{sound-step}
 use Rattle.bus_trace.specs.declared.scan.Progress.{Progress}
 use Rattle.bus_trace.specs.Path.{Quiet, still, more, none, one, NextAfter, happens}
 use Rattle.bus_trace.specs.Progress.{withProgress, Reached}
-use Rattle.bus_trace.proofs.Paths.{joined}
+use Rattle.bus_trace.proofs.Paths.{paths-joined}
 
 pub quiet-event : (e : Event) → happens e ≡ false → e ≡ Nothing
 quiet-event Nothing h = refl
@@ -37,7 +37,7 @@ module _ (c : Chip) where
 
   module _ {xs : List ℕ} {s₀ : Port} {i : ℕ} {s : Port} {j : ℕ} (k : Scanned xs s₀ i s j) where
     pub scan-quiet : {p : Progress} → Reached c xs s j p → Scanned xs s₀ i (withProgress s p) (p .at)
-    scan-quiet r = record { ahead = omega (arith, r .ahead); within = r .within; sound = r .good .sound; path = joined (k .path) (r .path) }
+    scan-quiet r = record { ahead = omega (arith, r .ahead); within = r .within; sound = r .good .sound; path = paths-joined (k .path) (r .path) }
 
     pub scan-nothing : (t : Port) (e : Event) → j < length xs → t ≡ stepOf c s (getD xs j 0) → e ≡ eventOf c s (getD xs j 0) → happens e ≡ false
         → Scanned xs s₀ i t (j + 1)

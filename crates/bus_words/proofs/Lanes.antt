@@ -213,13 +213,16 @@ rises-lanes zero l w h = refl
 rises-lanes (suc k) l w h =
     let half : l ≡ l / 2 * 2 = omega (arith, h .even) in
     let low : bitAnd (clockOf w) (bitXor (clockOf w) l) ≡ clockOf w - l =
-    ap (λ (m : ℕ). bitAnd (clockOf w) (bitXor (clockOf w) m)) half ∙ lane-rise (w / 2 % 2) (l / 2) (omega arith) (omega (arith, h .small)) ∙ ap (λ (m : ℕ). clockOf w - m) (sym half) in
-    ap (bitAnd (clocksIn k (w / 256) * 256 + clockOf w)) (xor-lane (clocksIn k (w / 256)) (beforeIn k (clockOf w) (w / 256)) (clockOf w) l (omega arith) (omega (arith, h .small)))
+    ap (λ (m : ℕ). bitAnd (clockOf w) (bitXor (clockOf w) m)) half ∙ lane-rise (w / 2 % 2) (l / 2) (omega arith) (omega (arith, h .small))
+    ∙ ap (λ (m : ℕ). clockOf w - m) (sym half) in
+    ap (bitAnd (clocksIn k (w / 256) * 256 + clockOf w))
+    (xor-lane (clocksIn k (w / 256)) (beforeIn k (clockOf w) (w / 256)) (clockOf w) l (omega arith) (omega (arith, h .small)))
     ∙ and-lane (clocksIn k (w / 256)) _ (clockOf w) (bitXor (clockOf w) l) (omega arith) (xor-lt 8 (clockOf w) l (omega arith) (omega (arith, h .small)))
     ∙ ap₂ (λ (a b : ℕ). a * 256 + b) (rises-lanes k (clockOf w) (w / 256) (clock-level w)) low
 
 pub rises-mask : (l w : ℕ) → Level l
-    → bitAnd (bitAnd w 0x0202020202020202) (bitXor (bitAnd w 0x0202020202020202) (bitOr (bitAnd w 0x0202020202020202 * 2 ^ 8 % 18446744073709551616) l)) ≡ risesIn 8 l w
+    → bitAnd (bitAnd w 0x0202020202020202) (bitXor (bitAnd w 0x0202020202020202) (bitOr (bitAnd w 0x0202020202020202 * 2 ^ 8 % 18446744073709551616) l))
+    ≡ risesIn 8 l w
 rises-mask l w h =
     let before : bitOr (clocksIn 8 w * 2 ^ 8 % 18446744073709551616) l ≡ beforeIn 8 l w =
     ap (λ (m : ℕ). bitOr m l)

@@ -83,11 +83,25 @@ module _ (xs : List ℕ) (bytes : (k : ℕ) → getD xs k 0 < 256) where
   first-sample i = omega arith
 
   pub word-of-eight : (i : ℕ)
-      → bitOr (bitOr (bitOr (bitOr (bitOr (bitOr (bitOr (getD xs i 0) (getD xs (i + 1) 0 * 2 ^ 8 % 18446744073709551616)) (getD xs (i + 2) 0 * 2 ^ 16 % 18446744073709551616)) (getD xs (i + 3) 0 * 2 ^ 24 % 18446744073709551616)) (getD xs (i + 4) 0 * 2 ^ 32 % 18446744073709551616)) (getD xs (i + 5) 0 * 2 ^ 40 % 18446744073709551616)) (getD xs (i + 6) 0 * 2 ^ 48 % 18446744073709551616)) (getD xs (i + 7) 0 * 2 ^ 56 % 18446744073709551616)
+      → bitOr
+      (bitOr
+      (bitOr
+      (bitOr
+      (bitOr (bitOr (bitOr (getD xs i 0) (getD xs (i + 1) 0 * 2 ^ 8 % 18446744073709551616)) (getD xs (i + 2) 0 * 2 ^ 16 % 18446744073709551616))
+      (getD xs (i + 3) 0 * 2 ^ 24 % 18446744073709551616))
+      (getD xs (i + 4) 0 * 2 ^ 32 % 18446744073709551616))
+      (getD xs (i + 5) 0 * 2 ^ 40 % 18446744073709551616))
+      (getD xs (i + 6) 0 * 2 ^ 48 % 18446744073709551616))
+      (getD xs (i + 7) 0 * 2 ^ 56 % 18446744073709551616)
       ≡ wordOf xs i 8
   word-of-eight i =
       word-turn i 7 _
-      (word-turn i 6 _ (word-turn i 5 _ (word-turn i 4 _ (word-turn i 3 _ (word-turn i 2 _ (word-turn i 1 _ (first-sample i) (omega arith)) (omega arith)) (omega arith)) (omega arith)) (omega arith)) (omega arith)) (omega arith)
+      (word-turn i 6 _
+      (word-turn i 5 _
+      (word-turn i 4 _ (word-turn i 3 _ (word-turn i 2 _ (word-turn i 1 _ (first-sample i) (omega arith)) (omega arith)) (omega arith)) (omega arith))
+      (omega arith))
+      (omega arith))
+      (omega arith)
 
   -- the first sample, and the others
   pub word-first : (i k : ℕ) → wordOf xs i (suc k) % 256 ≡ getD xs i 0
@@ -137,7 +151,8 @@ module _ (xs : List ℕ) (bytes : (k : ℕ) → getD xs k 0 < 256) where
   level-in zero (suc n) i l h = rw add-zero (omega (arith, word-first i n))
   level-in (suc k) (suc n) i l h =
       let a : i + 1 + k ≡ i + suc k = omega arith in
-      ap (levelIn (suc k) (clockOf (wordOf xs i (suc n)))) (word-rest i n) ∙ level-in k n (i + 1) (clockOf (wordOf xs i (suc n))) (omega arith) ∙ ap (λ (m : ℕ). clockOf (getD xs m 0)) a
+      ap (levelIn (suc k) (clockOf (wordOf xs i (suc n)))) (word-rest i n) ∙ level-in k n (i + 1) (clockOf (wordOf xs i (suc n))) (omega arith)
+      ∙ ap (λ (m : ℕ). clockOf (getD xs m 0)) a
 
 pub high-more : {xs : List ℕ} {i j n : ℕ} → High xs i j → j + n ≤ length xs → ((k : ℕ) → k < n → getD xs (j + k) 0 % 2 ≡ 1) → High xs i (j + n)
 high-more {xs} {i} {j} {n} a h f = record { ahead = omega (arith, a .ahead); within = h; all = λ k. at k (ltb k (j - i)) refl }

@@ -71,23 +71,28 @@ four-bits-are w line =
     let y = w / 2 ^ (8 + line) in
     let a : y % 2 ≡ bitOf (bitAt w (8 + line)) = ap (λ (x : ℕ). x % 2) (omega arith) ∙ shifted-bit w (8 + line) 0 (8 + line) (omega arith) in
     let b : y / 65536 % 2 ≡ bitOf (bitAt w (24 + line)) = shifted-bit w (8 + line) 16 (24 + line) (omega arith) in
-    let c : y / 65536 / 65536 % 2 ≡ bitOf (bitAt w (40 + line)) = ap (λ (x : ℕ). x % 2) (shr-shr y 16 16) ∙ shifted-bit w (8 + line) 32 (40 + line) (omega arith) in
+    let c : y / 65536 / 65536 % 2 ≡ bitOf (bitAt w (40 + line)) =
+    ap (λ (x : ℕ). x % 2) (shr-shr y 16 16) ∙ shifted-bit w (8 + line) 32 (40 + line) (omega arith) in
     let d : y / 65536 / 65536 / 65536 % 2 ≡ bitOf (bitAt w (56 + line)) =
     ap (λ (x : ℕ). x % 2) (ap (λ (x : ℕ). x / 65536) (shr-shr y 16 16) ∙ shr-shr y 32 16) ∙ shifted-bit w (8 + line) 48 (56 + line) (omega arith) in
-    let all : bitAnd y 0x0001000100010001 ≡ (((0 + bitOf (bitAt w (56 + line))) * 65536 + bitOf (bitAt w (40 + line))) * 65536 + bitOf (bitAt w (24 + line))) * 65536 + bitOf (bitAt w (8 + line)) =
+    let all : bitAnd y 0x0001000100010001
+    ≡ (((0 + bitOf (bitAt w (56 + line))) * 65536 + bitOf (bitAt w (40 + line))) * 65536 + bitOf (bitAt w (24 + line))) * 65536 + bitOf (bitAt w (8 + line)) =
     seconds-mask 4 y ∙ (λ t. (((0 + d t) * 65536 + c t) * 65536 + b t) * 65536 + a t) in
     ap gathered all ∙ gather (bitAt w (8 + line)) (bitAt w (24 + line)) (bitAt w (40 + line)) (bitAt w (56 + line))
 
 -- a bit of a word is one of its sample
-pub lane-bit : (xs : List ℕ) → ((k : ℕ) → getD xs k 0 < 256) → (j k i line : ℕ) → j < k → line < 8 → bitAt (wordOf xs i k) (8 * j + line) ≡ bitAt (getD xs (i + j) 0) line
+pub lane-bit : (xs : List ℕ) → ((k : ℕ) → getD xs k 0 < 256) → (j k i line : ℕ) → j < k → line < 8
+    → bitAt (wordOf xs i k) (8 * j + line) ≡ bitAt (getD xs (i + j) 0) line
 lane-bit xs bytes zero zero i line h l = absurd (omega arith)
 lane-bit xs bytes zero (suc k) i line h l =
     let e : 8 * 0 + line ≡ line = omega arith in
     let a : i ≡ i + 0 = omega arith in
-    ap (bitAt (wordOf xs i (suc k))) e ∙ sym (bit-under (wordOf xs i (suc k)) 8 line l) ∙ ap (λ (x : ℕ). bitAt x line) (word-first xs bytes i k) ∙ ap (λ (m : ℕ). bitAt (getD xs m 0) line) a
+    ap (bitAt (wordOf xs i (suc k))) e ∙ sym (bit-under (wordOf xs i (suc k)) 8 line l) ∙ ap (λ (x : ℕ). bitAt x line) (word-first xs bytes i k)
+    ∙ ap (λ (m : ℕ). bitAt (getD xs m 0) line) a
 lane-bit xs bytes (suc j) zero i line h l = absurd (omega arith)
 lane-bit xs bytes (suc j) (suc k) i line h l =
     let e : 8 * suc j + line ≡ 8 + (8 * j + line) = omega arith in
     let a : i + 1 + j ≡ i + suc j = omega arith in
-    ap (bitAt (wordOf xs i (suc k))) e ∙ sym (bit-above (wordOf xs i (suc k)) 8 (8 * j + line)) ∙ ap (λ (x : ℕ). bitAt x (8 * j + line)) (word-rest xs bytes i k)
+    ap (bitAt (wordOf xs i (suc k))) e ∙ sym (bit-above (wordOf xs i (suc k)) 8 (8 * j + line))
+    ∙ ap (λ (x : ℕ). bitAt x (8 * j + line)) (word-rest xs bytes i k)
     ∙ lane-bit xs bytes j k (i + 1) line (omega arith) l ∙ ap (λ (m : ℕ). bitAt (getD xs m 0) line) a

@@ -30,15 +30,21 @@ module _ (R : RattleType) (κ κ′ : Lft) (q : Share) (x : RefT (List (R .Denot
 
   abbrev pub SharedOut : Fml
   SharedOut = fsep (flent κ′ (arr-parts (shares R) (length (now x)) .part fullShare (now x) (ptr x .0) (ptr x .1)))
-      (fsep (fobor κ q (Held R (length (now x)) (ptr x .0) (ptr x .1) (x .name))) (fsep (fobs (x .name) (codedHoleys R .code (heres R (now x)))) (fauth (x .name) (codedHoleys R .code (heres R (now x))))))
+      (fsep (fobor κ q (Held R (length (now x)) (ptr x .0) (ptr x .1) (x .name)))
+      (fsep (fobs (x .name) (codedHoleys R .code (heres R (now x)))) (fauth (x .name) (codedHoleys R .code (heres R (now x))))))
 
   module _ {M : Type 1} (𝓤 : URA M) (H : Heap 𝓤) (A : Atoms 𝓤) (W : Given 𝓤 H A) (ℓ ℓ′ : Lifetime) (room : Room R (length (now x))) where
     pub lends-shared : ent 𝓤 (sep 𝓤 (sem 𝓤 H A (MutSlice ℓ κ R .own x (slice-vals x))) (A .lft κ q))
         (H .⇛ (ex 𝓤 (λ (δ : GName). sep 𝓤 (sem 𝓤 H A (ShrSlice ℓ′ κ′ R .own (under δ) (slice-vals x))) (sem 𝓤 H A SharedOut))))
     lends-shared =
-        qed W (‵ (MutSlice ℓ κ R .own x (slice-vals x)) ∷ ‵ (flft κ q) ∷ []) ∵ updating ! $ fsplit ! $ drop ! $ fsplit ! $ opens-slice ! tt R (now x) (ptr x .0) (ptr x .1) $
+        qed W (‵ (MutSlice ℓ κ R .own x (slice-vals x)) ∷ ‵ (flft κ q) ∷ []) ∵ updating ! $ fsplit ! $ drop ! $ fsplit ! $
+        opens-slice ! tt R (now x) (ptr x .0) (ptr x .1) $
         feqI ! ℕ (length (now x)) (length (now x)) refl $ fjoin ! $
-        use1 W (later (some (λ (δ : GName). ‵ (ShrSlice ℓ′ κ′ R .own (under δ) (slice-vals x)) ⊛ ‵ (flent κ′ (arr-parts (shares R) (length (now x)) .part fullShare (now x) (ptr x .0) (ptr x .1))))))
+        use1 W
+        (later
+        (some
+        (λ (δ : GName). ‵ (ShrSlice ℓ′ κ′ R .own (under δ) (slice-vals x)) ⊛ ‵
+        (flent κ′ (arr-parts (shares R) (length (now x)) .part fullShare (now x) (ptr x .0) (ptr x .1))))))
         (lends-shr-slice 𝓤 H A W R ℓ′ κ′ fullShare (now x) (ptr x .0) (ptr x .1) room) $ await ! tt $ pick ! (λ δ. split ! $
         -- [the slice lent; the lender's part; the open borrow; obs; auth]
         at-once ! $ show ! (λ (δ′ : GName). sep 𝓤 (sem 𝓤 H A (ShrSlice ℓ′ κ′ R .own (under δ′) (slice-vals x))) (sem 𝓤 H A SharedOut)) δ $ frame ! $
@@ -47,5 +53,6 @@ module _ (R : RattleType) (κ κ′ : Lft) (q : Share) (x : RefT (List (R .Denot
     pub shared-back : ent 𝓤 (sep 𝓤 (A .dead κ′) (sem 𝓤 H A SharedOut)) (H .⇛ (sep 𝓤 (sem 𝓤 H A (MutSlice ℓ κ R .own x (slice-vals x))) (A .lft κ q)))
     shared-back =
         qed W (‵ (fdead κ′) ∷ ‵ SharedOut ∷ []) ∵ updating ! $ move ! (1 ∷ []) $ fsplit ! $ move ! (2 ∷ 0 ∷ []) $ lent-back ! tt $ fsplit ! $ drop ! $
-        move ! (1 ∷ []) $ fsplit ! $ move ! (1 ∷ []) $ fsplit ! $ move ! (3 ∷ 2 ∷ 0 ∷ 1 ∷ []) $ closes-slice ! tt R (now x) (now x) refl (ptr x .0) (ptr x .1) $ at-once ! $
+        move ! (1 ∷ []) $ fsplit ! $ move ! (1 ∷ []) $ fsplit ! $ move ! (3 ∷ 2 ∷ 0 ∷ 1 ∷ []) $
+        closes-slice ! tt R (now x) (now x) refl (ptr x .0) (ptr x .1) $ at-once ! $
         fjoin ! $ pureI ! (at-slice R x (slice-vals x)) (tt, (tt, tt)) (refl, room) $ fjoin ! $ done !

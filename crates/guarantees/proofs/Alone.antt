@@ -73,21 +73,22 @@ record-other m k i n s x = own-other k i n (several.chipEvent i s x) (marked i s
 
 -- ---- one sample
 
-none-before : (m : List ℕ) (k i : ℕ) → k < i → (ss : List State) (x : Sample) → own k (recordsAt m i ss x) ≡ []
+none-of-lower : (m : List ℕ) (k i : ℕ) → k < i → (ss : List State) (x : Sample) → own k (recordsAt m i ss x) ≡ []
 unfolding own recordsAt
-none-before m k i h [] x = refl
-none-before m k i h (s ∷ ss) x =
+none-of-lower m k i h [] x = refl
+none-of-lower m k i h (s ∷ ss) x =
     own-append k (recordAt m i s x) (recordsAt m (i + 1) ss x)
-    ∙ ap₂ (λ (a b : List (List ℕ)). a ++ b) (record-other m k i (λ e. absurd (omega (arith, e))) s x) (none-before m k (i + 1) (omega arith) ss x)
+    ∙ ap₂ (λ (a b : List (List ℕ)). a ++ b) (record-other m k i (λ e. absurd (omega (arith, e))) s x) (none-of-lower m k (i + 1) (omega arith) ss x)
 
-own-sample : (m : List ℕ) (i j : ℕ) (ss : List State) (d : State) (x : Sample) → j < length ss → own (i + j) (recordsAt m i ss x) ≡ recordAt m (i + j) (getD ss j d) x
+own-sample : (m : List ℕ) (i j : ℕ) (ss : List State) (d : State) (x : Sample) → j < length ss
+    → own (i + j) (recordsAt m i ss x) ≡ recordAt m (i + j) (getD ss j d) x
 unfolding own recordsAt
 own-sample m i j [] d x h = absurd (omega arith)
 own-sample m i zero (s ∷ ss) d x h =
     let e : i + 0 ≡ i = add-zero i in
     ap (λ (k : ℕ). own k (recordsAt m i (s ∷ ss) x)) e
     ∙ own-append i (recordAt m i s x) (recordsAt m (i + 1) ss x)
-    ∙ ap₂ (λ (a b : List (List ℕ)). a ++ b) (record-same m i s x) (none-before m i (i + 1) (omega arith) ss x)
+    ∙ ap₂ (λ (a b : List (List ℕ)). a ++ b) (record-same m i s x) (none-of-lower m i (i + 1) (omega arith) ss x)
     ∙ append-nil (recordAt m i s x) ∙ ap (λ (k : ℕ). recordAt m k s x) (sym e)
 own-sample m i (suc j) (s ∷ ss) d x h =
     let e : i + suc j ≡ i + 1 + j = omega arith in
@@ -95,7 +96,8 @@ own-sample m i (suc j) (s ∷ ss) d x h =
     ∙ ap (λ (a : List (List ℕ)). a ++ own (i + suc j) (recordsAt m (i + 1) ss x)) (record-other m (i + suc j) i (λ q. absurd (omega (arith, q))) s x)
     ∙ ap (λ (k : ℕ). own k (recordsAt m (i + 1) ss x)) e ∙ own-sample m (i + 1) j ss d x (omega arith) ∙ ap (λ (k : ℕ). recordAt m k (getD ss j d) x) (sym e)
 
-after-sample : (m : List ℕ) (i j : ℕ) (ss : List State) (d : State) (x : Sample) → j < length ss → getD (allAfter m i ss x) j d ≡ stateAfter m (i + j) (getD ss j d) x
+after-sample : (m : List ℕ) (i j : ℕ) (ss : List State) (d : State) (x : Sample) → j < length ss
+    → getD (allAfter m i ss x) j d ≡ stateAfter m (i + j) (getD ss j d) x
 unfolding allAfter
 after-sample m i j [] d x h = absurd (omega arith)
 after-sample m i zero (s ∷ ss) d x h = ap (λ (k : ℕ). stateAfter m k s x) (sym (add-zero i))
@@ -103,19 +105,20 @@ after-sample m i (suc j) (s ∷ ss) d x h =
     let e : i + 1 + j ≡ i + suc j = omega arith in
     after-sample m (i + 1) j ss d x (omega arith) ∙ ap (λ (k : ℕ). stateAfter m k (getD ss j d) x) e
 
-pub length-after : (m : List ℕ) (i : ℕ) (ss : List State) (x : Sample) → length (allAfter m i ss x) ≡ length ss
+pub length-all-after : (m : List ℕ) (i : ℕ) (ss : List State) (x : Sample) → length (allAfter m i ss x) ≡ length ss
 unfolding allAfter
-length-after m i [] x = refl
-length-after m i (s ∷ ss) x = ap suc (length-after m (i + 1) ss x)
+length-all-after m i [] x = refl
+length-all-after m i (s ∷ ss) x = ap suc (length-all-after m (i + 1) ss x)
 
 pub length-run : (m : List ℕ) (ss : List State) (xs : List Sample) → length (runAll m ss xs) ≡ length ss
 unfolding runAll
 length-run m ss [] = refl
-length-run m ss (x ∷ xs) = length-run m (allAfter m 0 ss x) xs ∙ length-after m 0 ss x
+length-run m ss (x ∷ xs) = length-run m (allAfter m 0 ss x) xs ∙ length-all-after m 0 ss x
 
 -- ---- all samples
 
-with-given : (k : ℕ) (e : Event) (c : Bool) (r : List ℕ) (cs : List Bool) (rs : List (List ℕ)) → withNumber k (given e c ++ cs) (given e r ++ rs) ≡ given e (numbered k c r) ++ withNumber k cs rs
+with-given : (k : ℕ) (e : Event) (c : Bool) (r : List ℕ) (cs : List Bool) (rs : List (List ℕ))
+    → withNumber k (given e c ++ cs) (given e r ++ rs) ≡ given e (numbered k c r) ++ withNumber k cs rs
 unfolding withNumber
 with-given k Nothing c r cs rs = refl
 with-given k (Whole read a v) c r cs rs = refl
@@ -128,7 +131,8 @@ pub record Follows (m : List ℕ) (ss : List State) (xs : List Sample) (words : 
   pub banks : after .banks ≡ runOf Newer m (alone s words) (allSeenBy k xs) .banks
   pub records : own k (recordsAll m ss xs) ≡ withNumber k (contended m k s xs) (recordList m (alone s words) (allSeenBy k xs))
 
-pub follows : (m : List ℕ) (ss : List State) (xs : List Sample) (words : List ℕ) (k : ℕ) (d : State) → k < length ss → Follows m ss xs words k (getD ss k d) (getD (runAll m ss xs) k d)
+pub follows : (m : List ℕ) (ss : List State) (xs : List Sample) (words : List ℕ) (k : ℕ) (d : State) → k < length ss
+    → Follows m ss xs words k (getD ss k d) (getD (runAll m ss xs) k d)
 unfolding runAll recordsAll runOf recordList contended withNumber stateAfter recordAt own
 follows m ss [] words k d h = record { session = refl; banks = refl; records = refl }
 follows m ss (x ∷ xs) words k d h =
@@ -138,21 +142,25 @@ follows m ss (x ∷ xs) words k d h =
     let later = readerStateAfter Newer m (alone s words) (seenBy k x) .touched in
     let rest =
     subst (λ (t : State). Follows m (allAfter m 0 ss x) xs later k t (getD (runAll m (allAfter m 0 ss x) xs) k d)) next
-    (follows m (allAfter m 0 ss x) xs later k d (omega (arith, length-after m 0 ss x))) in
+    (follows m (allAfter m 0 ss x) xs later k d (omega (arith, length-all-after m 0 ss x))) in
     record {
       session = rest .session;
       banks = rest .banks;
       records =
           own-append k (recordsAt m 0 ss x) (recordsAll m (allAfter m 0 ss x) xs)
-          ∙ ap₂ (λ (a b : List (List ℕ)). a ++ b) (sym (ap (λ (j : ℕ). own j (recordsAt m 0 ss x)) z) ∙ own-sample m 0 k ss d x h ∙ ap (λ (j : ℕ). recordAt m j s x) z) (rest .records)
-          ∙ sym (with-given k (several.chipEvent k s x) (marked k s x) (ownRecord m s (several.chipEvent k s x)) (contended m k (stateAfter m k s x) xs) (recordList m (alone (stateAfter m k s x) later) (allSeenBy k xs)));
+          ∙ ap₂ (λ (a b : List (List ℕ)). a ++ b)
+          (sym (ap (λ (j : ℕ). own j (recordsAt m 0 ss x)) z) ∙ own-sample m 0 k ss d x h ∙ ap (λ (j : ℕ). recordAt m j s x) z) (rest .records)
+          ∙ sym
+          (with-given k (several.chipEvent k s x) (marked k s x) (ownRecord m s (several.chipEvent k s x)) (contended m k (stateAfter m k s x) xs)
+          (recordList m (alone (stateAfter m k s x) later) (allSeenBy k xs)));
     }
 
 -- ---- the call
 
 -- one by one, or one after the other
 given-one : (m : List ℕ) (w : ReaderState) (e : Event) (rest : List (List ℕ))
-    → joinedRecords (given e (recordOf Newer m (w .banks) (w .session .port .settings) e) ++ rest) ≡ recordOf Newer m (w .banks) (w .session .port .settings) e ++ joinedRecords rest
+    → joinedRecords (given e (recordOf Newer m (w .banks) (w .session .port .settings) e) ++ rest)
+    ≡ recordOf Newer m (w .banks) (w .session .port .settings) e ++ joinedRecords rest
 unfolding joinedRecords recordOf
 given-one m w Nothing rest = refl
 given-one m w (Whole read a v) rest = refl
@@ -179,15 +187,15 @@ placed-all-outside m mem (w ∷ ws) (s ∷ ss) j all mapped out =
     ∙ placed-all-outside m mem ws ss j (all .1 .1) (mapped .1) (out .1 .1)
 
 -- the banks of all chips keep their size
-mapped-after : (m : List ℕ) (i : ℕ) (ss : List State) (x : Sample) → AllMapped m ss → AllMapped m (allAfter m i ss x)
+mapped-all-after : (m : List ℕ) (i : ℕ) (ss : List State) (x : Sample) → AllMapped m ss → AllMapped m (allAfter m i ss x)
 unfolding allAfter
-mapped-after m i [] x all = tt
-mapped-after m i (s ∷ ss) x all = (banks-sized m i s x (all .0), mapped-after m (i + 1) ss x (all .1))
+mapped-all-after m i [] x all = tt
+mapped-all-after m i (s ∷ ss) x all = (banks-sized m i s x (all .0), mapped-all-after m (i + 1) ss x (all .1))
 
 mapped-run : (m : List ℕ) (ss : List State) (xs : List Sample) → AllMapped m ss → AllMapped m (runAll m ss xs)
 unfolding runAll
 mapped-run m ss [] all = all
-mapped-run m ss (x ∷ xs) all = mapped-run m (allAfter m 0 ss x) xs (mapped-after m 0 ss x all)
+mapped-run m ss (x ∷ xs) all = mapped-run m (allAfter m 0 ss x) xs (mapped-all-after m 0 ss x all)
 
 states-at : (mem : List ℕ) (ws : List Member) (k : ℕ) (d : Member) → k < length ws → getD (statesOf mem ws) k (stateOf mem d) ≡ stateOf mem (getD ws k d)
 states-at mem [] k d h = absurd (omega arith)
@@ -199,16 +207,19 @@ length-states mem [] = refl
 length-states mem (w ∷ ws) = ap suc (length-states mem ws)
 
 -- a call whose number is 0 is not refused, and leaves what was done
-number-zero : (m : List ℕ) (ws : List Member) (mem bytes old : List ℕ) → severalOf m ws mem bytes old .number ≡ 0 → severalNumber m ws (length mem) bytes (length old) ≡ 0
+number-zero : (m : List ℕ) (ws : List Member) (mem bytes old : List ℕ) → severalOf m ws mem bytes old .number ≡ 0
+    → severalNumber m ws (length mem) bytes (length old) ≡ 0
 unfolding severalOf
 number-zero m ws mem bytes old e = by (eqb (severalNumber m ws (length mem) bytes (length old)) 0) refl e
   where
     by : (t : Bool) → eqb (severalNumber m ws (length mem) bytes (length old)) 0 ≡ t
-        → (cond t (doneOf m ws mem bytes old) (severalOutcome (severalNumber m ws (length mem) bytes (length old)) ws mem 0 old)) .number ≡ 0 → severalNumber m ws (length mem) bytes (length old) ≡ 0
+        → (cond t (doneOf m ws mem bytes old) (severalOutcome (severalNumber m ws (length mem) bytes (length old)) ws mem 0 old)) .number ≡ 0
+        → severalNumber m ws (length mem) bytes (length old) ≡ 0
     by true q z = eqb-true _ _ q
     by false q z = z
 
-pub severalOf-done : (m : List ℕ) (ws : List Member) (mem bytes old : List ℕ) → severalNumber m ws (length mem) bytes (length old) ≡ 0 → severalOf m ws mem bytes old ≡ doneOf m ws mem bytes old
+pub severalOf-done : (m : List ℕ) (ws : List Member) (mem bytes old : List ℕ) → severalNumber m ws (length mem) bytes (length old) ≡ 0
+    → severalOf m ws mem bytes old ≡ doneOf m ws mem bytes old
 unfolding severalOf
 severalOf-done m ws mem bytes old z = sym (yes _ (eq-eqb _ _ z) refl)
 
@@ -229,7 +240,9 @@ as-if-alone m ws mem bytes old words k d zero-number h =
     let held =
     ap₂ (λ (l : List ℕ) (v : Member). stateOf l v) memory member
     ∙ state-back (placedAll mem ws after) (getD ws k d) (getD after k e) (own-banks m mem ws after k d e (ok .ranged) mapped many h) in
-    let f = subst (λ (s : State). Follows m ss xs words k s (getD after k e)) (states-at mem ws k d h) (follows m ss xs words k e (omega (arith, length-states mem ws, h))) in
+    let f =
+    subst (λ (s : State). Follows m ss xs words k s (getD after k e)) (states-at mem ws k d h)
+    (follows m ss xs words k e (omega (arith, length-states mem ws, h))) in
     record {
       session = ap (λ (s : State). s .session) held ∙ f .session;
       banks = ap (λ (s : State). s .banks) held ∙ f .banks;
@@ -245,7 +258,8 @@ blot-numbered : (k : ℕ) (c : Bool) (r : List ℕ) → blotted (numbered k c r)
 blot-numbered k true r = ap (λ (l : List ℕ). k ∷ l) (set-set r 5 2 0)
 blot-numbered k false r = refl
 
-blot-given : (k : ℕ) (e : Event) (c : Bool) (r : List ℕ) (rs : List (List ℕ)) → map blotted (given e (numbered k c r) ++ rs) ≡ given e (k ∷ set r 5 0) ++ map blotted rs
+blot-given : (k : ℕ) (e : Event) (c : Bool) (r : List ℕ) (rs : List (List ℕ))
+    → map blotted (given e (numbered k c r) ++ rs) ≡ given e (k ∷ set r 5 0) ++ map blotted rs
 blot-given k Nothing c r rs = refl
 blot-given k (Whole read a v) c r rs = ap (λ (l : List ℕ). l ∷ map blotted rs) (blot-numbered k c r)
 blot-given k (Aborted a bits inData) c r rs = ap (λ (l : List ℕ). l ∷ map blotted rs) (blot-numbered k c r)
@@ -255,7 +269,8 @@ blot-given k Ended c r rs = refl
 plainList : List ℕ → ℕ → ReaderState → List ℕ → List (List ℕ)
 plainList m k w [] = []
 plainList m k w (y ∷ ys) =
-    given (eventAt Newer w y) (k ∷ set (recordOf Newer m (w .banks) (w .session .port .settings) (eventAt Newer w y)) 5 0) ++ plainList m k (readerStateAfter Newer m w y) ys
+    given (eventAt Newer w y) (k ∷ set (recordOf Newer m (w .banks) (w .session .port .settings) (eventAt Newer w y)) 5 0)
+    ++ plainList m k (readerStateAfter Newer m w y) ys
 
 blot-list : (m : List ℕ) (k : ℕ) (s : State) (words : List ℕ) (xs : List Sample)
     → map blotted (withNumber k (contended m k s xs) (recordList m (alone s words) (allSeenBy k xs))) ≡ plainList m k (alone s words) (allSeenBy k xs)
@@ -264,8 +279,10 @@ blot-list m k s words [] = refl
 blot-list m k s words (x ∷ xs) =
     let e = several.chipEvent k s x in
     let later = readerStateAfter Newer m (alone s words) (seenBy k x) .touched in
-    ap (map blotted) (with-given k e (marked k s x) (ownRecord m s e) (contended m k (stateAfter m k s x) xs) (recordList m (alone (stateAfter m k s x) later) (allSeenBy k xs)))
-    ∙ blot-given k e (marked k s x) (ownRecord m s e) (withNumber k (contended m k (stateAfter m k s x) xs) (recordList m (alone (stateAfter m k s x) later) (allSeenBy k xs)))
+    ap (map blotted)
+    (with-given k e (marked k s x) (ownRecord m s e) (contended m k (stateAfter m k s x) xs) (recordList m (alone (stateAfter m k s x) later) (allSeenBy k xs)))
+    ∙ blot-given k e (marked k s x) (ownRecord m s e)
+    (withNumber k (contended m k (stateAfter m k s x) xs) (recordList m (alone (stateAfter m k s x) later) (allSeenBy k xs)))
     ∙ ap (λ (l : List (List ℕ)). given e (k ∷ set (ownRecord m s e) 5 0) ++ l) (blot-list m k (stateAfter m k s x) later xs)
 
 pub no-other-select : NoOtherSelect

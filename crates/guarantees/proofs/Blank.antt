@@ -24,10 +24,10 @@ repeated (suc n) zero z = refl
 repeated (suc n) (suc i) z = repeated n i z
 
 -- behind some bytes one byte is repeated
-behind : (xs : List ℕ) (n i z : ℕ) → length xs ≤ i → getD (xs ++ replicate n z) i z ≡ z
-behind [] n i z h = repeated n i z
-behind (x ∷ xs) n zero z h = absurd (omega arith)
-behind (x ∷ xs) n (suc i) z h = behind xs n i z (omega arith)
+repeated-behind : (xs : List ℕ) (n i z : ℕ) → length xs ≤ i → getD (xs ++ replicate n z) i z ≡ z
+repeated-behind [] n i z h = repeated n i z
+repeated-behind (x ∷ xs) n zero z h = absurd (omega arith)
+repeated-behind (x ∷ xs) n (suc i) z h = repeated-behind xs n i z (omega arith)
 
 abbrev blankEntry : Entry
 blankEntry = record { kind = 0; mask = 0; default = 0 }
@@ -40,12 +40,14 @@ module _ (xs : List ℕ) (n : ℕ) (head : length xs ≡ 53) where
   unfolding entryAt
   blank-from-16 a h = go (ltb a (countOf m))
     where
-      go : (b : Bool) → cond b (record { kind = byteAt m (entryStart m a); mask = byteAt m (entryStart m a + 1); default = byteAt m (entryStart m a + 2) }) blankEntry ≡ blankEntry
+      go : (b : Bool)
+          → cond b (record { kind = byteAt m (entryStart m a); mask = byteAt m (entryStart m a + 1); default = byteAt m (entryStart m a + 2) }) blankEntry
+          ≡ blankEntry
       go true =
           rw (
-            behind xs n (entryStart m a) 0 (omega (arith, head-bounds m)),
-            behind xs n (entryStart m a + 1) 0 (omega (arith, head-bounds m)),
-            behind xs n (entryStart m a + 2) 0 (omega (arith, head-bounds m)),
+            repeated-behind xs n (entryStart m a) 0 (omega (arith, head-bounds m)),
+            repeated-behind xs n (entryStart m a + 1) 0 (omega (arith, head-bounds m)),
+            repeated-behind xs n (entryStart m a + 2) 0 (omega (arith, head-bounds m)),
           )
       go false = refl
 
@@ -54,9 +56,9 @@ module _ (xs : List ℕ) (n : ℕ) (head : length xs ≡ 53) where
   good-from-16 zero a h = refl
   good-from-16 (suc k) a h = rw (blank-from-16 a h, good-from-16 k (a + 1) (omega arith))
 
-first-good : true ≡ entriesGood placeKinds map8192 0 16
+first-sixteen-good : true ≡ entriesGood placeKinds map8192 0 16
 unfolding countOf headOf entryAt kindRule placeRule entryGood entriesGood
-first-good = refl
+first-sixteen-good = refl
 
 others-good : true ≡ entriesGood [] map8192 16 (countOf map8192 - 16)
 unfolding countOf
@@ -73,6 +75,6 @@ further-good = refl
 pub good-8192 : mapNumber Newer map8192 ≡ 0
 unfolding mapNumber
 good-8192 =
-    let entries = two-parts placeKinds map8192 true true (formed map8192 form-good) (omega arith) first-good others-good in
+    let entries = two-parts placeKinds map8192 true true (formed map8192 form-good) (omega arith) first-sixteen-good others-good in
     let rules : (entriesGood placeKinds map8192 0 (countOf map8192) && every (furtherTests Newer map8192)) ≡ true = rw (← entries, ← further-good) in
     sym (yes _ form-good (yes _ rules refl))

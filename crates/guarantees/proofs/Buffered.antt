@@ -73,7 +73,8 @@ transfer-write :
     → writeBanks c m b (p .address) (p .byte) ≡ transferred m b
 unfolding writeBanks applied effectOf controlEffect
 transfer-write c m b p good t =
-    let there : p .address ≡ transferPlace c = eqb-true (p .address) (transferPlace c) (and-left (eqb (p .address) (transferPlace c)) (bitAt (p .byte) transferBit) t) in
+    let there : p .address ≡ transferPlace c =
+    eqb-true (p .address) (transferPlace c) (and-left (eqb (p .address) (transferPlace c)) (bitAt (p .byte) transferBit) t) in
     let kind : registerAt m (p .address) .kind ≡ control = ap (λ (a : ℕ). registerAt m a .kind) there ∙ control-transfer c m good in
     rw (kind, not-at-zero c (p .address) there, t)
 
@@ -164,7 +165,8 @@ module _ (c : Chip) (m : List ℕ) (a : ℕ) (kind : registerAt m a .kind ≡ bu
       then = writeAll c m before b
 
       calm-later : anyReset c later ≡ false
-      calm-later = or-right (isReset c p) (anyReset c later) (or-right (anyReset c before) (anyReset c (p ∷ later)) (sym (reset-append c before (p ∷ later)) ∙ calm))
+      calm-later =
+          or-right (isReset c p) (anyReset c later) (or-right (anyReset c before) (anyReset c (p ∷ later)) (sym (reset-append c before (p ∷ later)) ∙ calm))
 
 -- ---- which runs arm a session: one of its bytes goes to a buffered register, and the rise can move bytes
 
@@ -221,10 +223,12 @@ reset-effect (Older part top) m b p good r = absurd (false≢true r)
 reset-effect Newer m b p good r =
     let zero-place = and-left (eqb (p .address) configurationA) (isMirror (p .byte) && resets (p .byte)) r in
     let both = and-right (eqb (p .address) configurationA) (isMirror (p .byte) && resets (p .byte)) r in
-    let kind : registerAt m (p .address) .kind ≡ control = ap (λ (a : ℕ). registerAt m a .kind) (eqb-true (p .address) configurationA zero-place) ∙ control-at Newer m good configurationA (omega arith) refl in
+    let kind : registerAt m (p .address) .kind ≡ control =
+    ap (λ (a : ℕ). registerAt m a .kind) (eqb-true (p .address) configurationA zero-place) ∙ control-at Newer m good configurationA (omega arith) refl in
     rw (kind, zero-place, and-left (isMirror (p .byte)) (resets (p .byte)) both, and-right (isMirror (p .byte)) (resets (p .byte)) both) refl
 
-pub after-whole-reset : (c : Chip) (m : List ℕ) (before : List RunByte) (p : RunByte) (later : List RunByte) (b : Banks) → mapNumber c m ≡ 0 → isReset c p ≡ true
+pub after-whole-reset : (c : Chip) (m : List ℕ) (before : List RunByte) (p : RunByte) (later : List RunByte) (b : Banks) → mapNumber c m ≡ 0
+    → isReset c p ≡ true
     → riseBanks c m (armedAll c m (before ++ (p ∷ later)) b false) (writeAll c m (before ++ (p ∷ later)) b)
     ≡ riseBanks c m (armedAll c m later (defaultBanks m) false) (writeAll c m later (defaultBanks m))
 unfolding writeAll armedAll writeBanks applied armedBy

@@ -21,7 +21,8 @@ unfolding runOf
 run-append c m w [] ys = refl
 run-append c m w (x ∷ xs) ys = run-append c m (readerStateAfter c m w x) xs ys
 
-pub records-append : (c : Chip) (m : List ℕ) (w : ReaderState) (xs ys : List ℕ) → recordsOf c m w (xs ++ ys) ≡ recordsOf c m w xs ++ recordsOf c m (runOf c m w xs) ys
+pub records-append : (c : Chip) (m : List ℕ) (w : ReaderState) (xs ys : List ℕ)
+    → recordsOf c m w (xs ++ ys) ≡ recordsOf c m w xs ++ recordsOf c m (runOf c m w xs) ys
 unfolding recordsOf runOf
 records-append c m w [] ys = refl
 records-append c m w (x ∷ xs) ys =

@@ -54,7 +54,9 @@ older-none : (part : Part) (top : ℕ) (read : Bool) (t : Settings) (k a : ℕ) 
     → AllFit (Older part top) read (inUseOf t) t (runFrom (t .«lsb_first») a vs) → Remaining (length vs) (leftOf (Older part top) k)
     → isCounted
     (foldl (stepOf (Older part top)) (starting false t)
-    (clocked (bitsOf (t .«lsb_first») 16 (instructionOf read (lengthAndAddress (Older part top) k a)) ++ runBits false read (t .«lsb_first») (runFrom (t .«lsb_first») a vs))) .left)
+    (clocked
+    (bitsOf (t .«lsb_first») 16 (instructionOf read (lengthAndAddress (Older part top) k a)) ++ runBits false read (t .«lsb_first»)
+    (runFrom (t .«lsb_first») a vs))) .left)
     ≡ false
 older-none part top read t k a [] r fit left = absurd (omega (arith, r .some))
 older-none part top read t k a (v ∷ vs) r fit left =
@@ -68,12 +70,12 @@ older-none part top read t k a (v ∷ vs) r fit left =
     ∙ older-left part top read (inUseOf t) vs v t a (leftOf (Older part top) k) true fit (r .goes) left
 
 -- behind the bits of an order no counted run is left
-pub none-left : (c : Chip) (m : List ℕ) (w : ReaderState) (o : Order) (room : ℕ) → AtRest c m w o → Accepted c o room
+pub no-run-left : (c : Chip) (m : List ℕ) (w : ReaderState) (o : Order) (room : ℕ) → AtRest c m w o → Accepted c o room
     → isCounted (runOf c m w (0x00 ∷ clocked (orderBits c o)) .session .port .left) ≡ false
 unfolding orderBits stepOf bitAt
-none-left Newer m w o room rest accepted =
+no-run-left Newer m w o room rest accepted =
     newer-left _ (port-sound Newer _ (run-sound Newer m w (0x00 ∷ clocked (orderBits Newer o)) (rest-sound Newer m w o rest) .session-sound))
-none-left (Older part top) m w o room rest accepted =
+no-run-left (Older part top) m w o room rest accepted =
     let c = Older part top in
     let count = admitted c o room (accepted .number) .count in
     let sent = length-sent (isRead o) (o .count) (o .bytes) (count .data-length) in
@@ -90,7 +92,9 @@ start-no-bits :
     (c : Chip) (read : Bool) (t : Settings) (k a : ℕ) (vs : List ℕ) → Ready c t k a vs
     → AllFit c read (inUseOf t) t (runFrom (counting c (inUseOf t) .ascending) a vs)
     → foldl (stepOf c) (starting false t)
-    (clocked (bitsFrom (counting c (inUseOf t) .«single_instruction») read (t .«lsb_first») (lengthAndAddress c k a) (runFrom (counting c (inUseOf t) .ascending) a vs))) .bits
+    (clocked
+    (bitsFrom (counting c (inUseOf t) .«single_instruction») read (t .«lsb_first») (lengthAndAddress c k a)
+    (runFrom (counting c (inUseOf t) .ascending) a vs))) .bits
     ≡ 0
 start-no-bits c read t k a [] r fit = absurd (omega (arith, r .some))
 start-no-bits c read t k a (v ∷ vs) r fit =
@@ -106,14 +110,17 @@ start-no-bits c read t k a (v ∷ vs) r fit =
     by-mode :
         (single : Bool)
         → ((sclk : Bool)
-        → foldl (stepOf c) (cond single (starting sclk t) (inData sclk 0 0 a read (leftOf c k) t (inUseOf t))) (clocked (runBits single read (t .«lsb_first») ps)) .bits ≡ 0)
+        → foldl (stepOf c) (cond single (starting sclk t) (inData sclk 0 0 a read (leftOf c k) t (inUseOf t)))
+        (clocked (runBits single read (t .«lsb_first») ps)) .bits
+        ≡ 0)
         → foldl (stepOf c) (starting false t) (clocked (bitsFrom single read (t .«lsb_first») (lengthAndAddress c k a) ps)) .bits ≡ 0
     by-mode true bytes = bytes false
     by-mode false bytes =
         ap (λ (s : Port). s .bits)
         (ap (foldl (stepOf c) (starting false t)) (clocked-append instruction (runBits false read (t .«lsb_first») ps))
         ∙ fold-append (stepOf c) (starting false t) (clocked instruction) (clocked (runBits false read (t .«lsb_first») ps))
-        ∙ ap (λ (s : Port). foldl (stepOf c) s (clocked (runBits false read (t .«lsb_first») ps))) (stepped-instruction c k read t (inUseOf t) a (r .top) (r .start) false))
+        ∙ ap (λ (s : Port). foldl (stepOf c) s (clocked (runBits false read (t .«lsb_first») ps)))
+        (stepped-instruction c k read t (inUseOf t) a (r .top) (r .start) false))
         ∙ bytes true
 
 order-no-bits : (c : Chip) (m : List ℕ) (w : ReaderState) (o : Order) (room : ℕ) → AtRest c m w o → Accepted c o room

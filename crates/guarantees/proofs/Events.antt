@@ -74,7 +74,8 @@ heldOn c m h e = record {
   touched = touchedAfter c m (h .touched) (h .banks) e;
 }
 
-pub run-held : (c : Chip) (m : List ℕ) (w : ReaderState) (xs : List ℕ) → heldIn (runOf c m w xs) ≡ foldl (heldOn c m) (heldIn w) (eventsOf c (w .session .port) xs)
+pub run-held : (c : Chip) (m : List ℕ) (w : ReaderState) (xs : List ℕ)
+    → heldIn (runOf c m w xs) ≡ foldl (heldOn c m) (heldIn w) (eventsOf c (w .session .port) xs)
 unfolding banksAfter armedAfter touchedAfter
 run-held c m w xs = run-fold c m (heldOn c m) heldIn (λ h. refl) (λ w x. refl) w xs
 
@@ -161,7 +162,8 @@ run-records c m w (x ∷ xs) =
     let e : Event = eventOf c (w .session .port) x in
     let more : List Event = eventsOf c (stepOf c (w .session .port) x) xs in
     ap (λ (l : List ℕ). recordOf c m (w .banks) (w .session .port .settings) e ++ l)
-    (run-records c m (readerStateAfter c m w x) xs ∙ ap (λ (t : Settings). recordsBy c m (heldOn c m (heldIn w) e) t more) (settings-step c (w .session .port) x))
+    (run-records c m (readerStateAfter c m w x) xs
+    ∙ ap (λ (t : Settings). recordsBy c m (heldOn c m (heldIn w) e) t more) (settings-step c (w .session .port) x))
     ∙ noted-records c m (heldIn w) (w .session .port .settings) e more
 
 -- how many records some events give

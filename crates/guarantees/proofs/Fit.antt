@@ -42,10 +42,14 @@ sent-bytes : (read : Bool) (k : ℕ) (vs : List ℕ) → areBytes vs ≡ true �
 sent-bytes true k vs h = sent-zeros k
 sent-bytes false k vs h = sent-data vs h
 
-settings-kept : (t : Settings) (p : RunByte) → isConfiguration p ≡ false → newerAfter t (p .address) (p .byte) ≡ t
+settings-kept-by-byte : (t : Settings) (p : RunByte) → isConfiguration p ≡ false → newerAfter t (p .address) (p .byte) ≡ t
 unfolding newerAfter
-settings-kept t p h =
-    rw (or-left (eqb (p .address) configurationA) (eqb (p .address) configurationB) h, or-right (eqb (p .address) configurationA) (eqb (p .address) configurationB) h)
+settings-kept-by-byte t p h =
+    rw (
+      or-left (eqb (p .address) configurationA) (eqb (p .address) configurationB) h,
+      or-right (eqb (p .address) configurationA)
+          (eqb (p .address) configurationB) h,
+    )
 
 -- the next instruction finds the settings in use: in a stream there is none, a read changes no setting, and of a single-instruction write
 -- only the last byte may
@@ -60,7 +64,7 @@ steady-on Newer read u t p early h e = by-mode (u .«single_instruction») read 
         → cond single (inUseOf (settingsOn Newer t (wholeOf read p))) u ≡ u
     by-mode false read h e = e
     by-mode true true h e = e
-    by-mode true false h e = rw (settings-kept t p (or-left (isConfiguration p) early h)) e
+    by-mode true false h e = rw (settings-kept-by-byte t p (or-left (isConfiguration p) early h)) e
 steady-on (Older part top) read u t p early h e = e
 
 late-on :

@@ -86,7 +86,9 @@ module _ (part : Part) (top : ℕ) (read : Bool) (u : InUse) where
 
   pub older-left : (vs : List ℕ) (v : ℕ) (t : Settings) (a left : ℕ) (sclk : Bool) → AllFit (Older part top) read u t (runFrom (u .«lsb_first») a (v ∷ vs))
       → Goes (Older part top) u left a (v ∷ vs) → Remaining (length (v ∷ vs)) left
-      → isCounted (foldl (stepOf (Older part top)) (inData sclk 0 0 a read left t u) (clocked (runBits false read (u .«lsb_first») (runFrom (u .«lsb_first») a (v ∷ vs)))) .left)
+      → isCounted
+      (foldl (stepOf (Older part top)) (inData sclk 0 0 a read left t u)
+      (clocked (runBits false read (u .«lsb_first») (runFrom (u .«lsb_first») a (v ∷ vs)))) .left)
       ≡ false
   unfolding runFrom runBits clocked
   older-left [] v t a left sclk fit goes r =
@@ -94,7 +96,9 @@ module _ (part : Part) (top : ℕ) (read : Bool) (u : InUse) where
   older-left (w ∷ ws) v t a left sclk fit goes r =
       ap (λ (s : Port). isCounted (s .left))
       (byte-first (Older part top) read u (w ∷ ws) v t a left sclk (fit .0) (λ e. absurd (false≢true e))
-      ∙ ap (λ (s : Port). foldl (stepOf (Older part top)) s (clocked (runBits false read (u .«lsb_first») (runFrom (u .«lsb_first») (nextAddress (u .«lsb_first») a) (w ∷ ws)))))
+      ∙ ap
+      (λ (s : Port). foldl (stepOf (Older part top)) s
+      (clocked (runBits false read (u .«lsb_first») (runFrom (u .«lsb_first») (nextAddress (u .«lsb_first») a) (w ∷ ws)))))
       (goes-on (Older part top) read u t a left v (goes .0)))
       ∙ older-left ws w (settingsOn (Older part top) t (Whole read a v)) (nextAddress (u .«lsb_first») a) (leftAfter left) true (fit .1) (goes .1)
       (more-left (length ws) r .1)

@@ -45,8 +45,10 @@ lengths-of version n m good v e =
 pub known-results : KnownResults
 unfolding bitAt merged every turned isMirror countOf headOf entryAt kindRule placeRule entryGood entriesGood mapNumber
     newerAfter newerReading entered withInstructionBit withDataBit stepOf bitEvent endEvent eventOf
-    defaultsFrom defaultBanks transferFrom transferred controlEffect effectOf applied writeBanks writtenBy dueByte recordOf banksAfter armedAfter touchedAfter armedBy riseBanks runOf recordsOf
-    runFrom highFirst lowFirst bitsOf byteBits runBits orderBits clocked samplesOf allSamples configuresEarly sendNumber soundPort soundSession samplesGood readNumber
+    defaultsFrom defaultBanks transferFrom transferred controlEffect effectOf applied writeBanks writtenBy dueByte recordOf banksAfter armedAfter
+    touchedAfter armedBy riseBanks runOf recordsOf
+    runFrom highFirst lowFirst bitsOf byteBits runBits orderBits clocked samplesOf allSamples configuresEarly sendNumber soundPort soundSession samplesGood
+    readNumber
 known-results = record {
   maps-16 = record { good = refl; in-version = refl; registers = refl; lengths = lengths-of 1 16 };
   maps-8192 = record { good = good-8192; in-version = refl; registers = refl; lengths = lengths-of 1 8192 };

@@ -23,7 +23,8 @@ use Rattle.guarantees.specs.KnownOlder.{OlderResults}
 pub older-results : OlderResults
 unfolding bitAt merged every countOf headOf entryAt kindRule placeRule entryGood entriesGood mapNumber mapTestNumber
     olderAfter olderReading entered withInstructionBit withDataBit stepOf bitEvent endEvent eventOf
-    defaultsFrom defaultBanks transferFrom transferred controlEffect effectOf applied writeBanks writtenBy dueByte recordOf banksAfter armedAfter touchedAfter armedBy riseBanks runOf recordsOf
+    defaultsFrom defaultBanks transferFrom transferred controlEffect effectOf applied writeBanks writtenBy dueByte recordOf banksAfter armedAfter
+    touchedAfter armedBy riseBanks runOf recordsOf
     runFrom highFirst lowFirst bitsOf byteBits runBits orderBits clocked samplesOf configuresEarly upTo sendNumber
 older-results = record {
   good = refl;

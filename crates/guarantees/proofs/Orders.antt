@@ -61,7 +61,10 @@ from-start :
     (c : Chip) (read : Bool) (t : Settings) (k a j : ℕ) (vs : List ℕ) → Ready c t k a vs
     → AllFit c read (inUseOf t) t (runFrom (counting c (inUseOf t) .ascending) a vs)
     → eventsOf c (starting false t)
-    (take j (clocked (bitsFrom (counting c (inUseOf t) .«single_instruction») read (t .«lsb_first») (lengthAndAddress c k a) (runFrom (counting c (inUseOf t) .ascending) a vs)) ++ ending))
+    (take j
+    (clocked
+    (bitsFrom (counting c (inUseOf t) .«single_instruction») read (t .«lsb_first») (lengthAndAddress c k a)
+    (runFrom (counting c (inUseOf t) .ascending) a vs)) ++ ending))
     ≡ map (wholeOf read) (take (wholeIn (counting c (inUseOf t) .«single_instruction») j) (runFrom (counting c (inUseOf t) .ascending) a vs))
 from-start c read t k a j [] r fit = absurd (omega (arith, r .some))
 from-start c read t k a j (v ∷ vs) r fit =
@@ -152,7 +155,8 @@ take-unraised c o s h =
     ∙ take-append-le s (unraised c o) (0x01 ∷ []) (omega (arith, ap length (raised-last c o), length-append (unraised c o) (0x01 ∷ [])))
 
 -- the port of a session at rest
-pub rest-port : (c : Chip) (m : List ℕ) (w : ReaderState) (o : Order) → AtRest c m w o → w .session .port ≡ resting (w .session .port .sclk) (w .session .port .settings)
+pub rest-port : (c : Chip) (m : List ℕ) (w : ReaderState) (o : Order) → AtRest c m w o
+    → w .session .port ≡ resting (w .session .port .sclk) (w .session .port .settings)
 rest-port c m w o rest = rest-form c (w .session .port) (port-sound c (w .session) (rest .sound)) (rest .at-rest) (rest .deselected)
 
 pub order-events :

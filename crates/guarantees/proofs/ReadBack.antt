@@ -29,7 +29,7 @@ use Rattle.guarantees.specs.ReadBack.{settingsPast, settingsLeft, banksL
 use Rattle.guarantees.proofs.Events.{eventsOf, settingsOn, settings-step, Held, heldIn, heldOn, recordsBy, recordsAmong, run-held, run-settings, run-records, run-count}
 use Rattle.guarantees.proofs.Runs.{wholeOf}
 use Rattle.guarantees.proofs.Orders.{unraised, raised-last, order-events}
-use Rattle.guarantees.proofs.Ending.{end-rests, none-left, end-no-record}
+use Rattle.guarantees.proofs.Ending.{end-rests, no-run-left, end-no-record}
 use Rattle.guarantees.proofs.Counts.{run-length, sample-count}
 use Rattle.guarantees.proofs.Calls.{run-append, records-append, count-append}
 use Rattle.guarantees.proofs.Done.{sound-run, rest-sound, no-refusal, good-samples, few-samples}
@@ -89,7 +89,8 @@ module _ (c : Chip) (m : List ℕ) (w : ReaderState) (o : Order) (room : ℕ) (r
   all-whole : wholeBytes c o (length (unraised c o)) ≡ length (runBytes c o)
   unfolding wholeBytes
   all-whole =
-      let size : length (unraised c o) ≡ cond (isSingle c o) (3 + 48 * o .count) (35 + 16 * o .count) - 1 = omega (arith, body-length, sample-count c o room accepted) in
+      let size : length (unraised c o) ≡ cond (isSingle c o) (3 + 48 * o .count) (35 + 16 * o .count) - 1 =
+      omega (arith, body-length, sample-count c o room accepted) in
       rw (size, run-length c o room accepted) (whole-by (isSingle c o) (o .count))
 
   run-whole : eventsOf c (w .session .port) (unraised c o) ≡ map (wholeOf (isRead o)) (runBytes c o)
@@ -127,12 +128,13 @@ module _ (c : Chip) (m : List ℕ) (w : ReaderState) (o : Order) (room : ℕ) (r
       rests : runOf c m w (samplesOf c o) .session .port ≡ resting false (runOf c m w (0x00 ∷ clocked (orderBits c o)) .session .port .settings)
       rests =
           ap (λ (v : ReaderState). v .session .port) (run-append c m w (0x00 ∷ clocked (orderBits c o)) (0x00 ∷ 0x01 ∷ []))
-          ∙ end-rests c (runOf c m w (0x00 ∷ clocked (orderBits c o)) .session .port) (none-left c m w o room rest accepted)
+          ∙ end-rests c (runOf c m w (0x00 ∷ clocked (orderBits c o)) .session .port) (no-run-left c m w o room rest accepted)
 
   pub session-end : runOf c m w (samplesOf c o) .session
       ≡ record { port = resting false (settingsLeft c (isRead o) (w .session .port .settings) (runBytes c o)); armed = false }
   unfolding bitAt
-  session-end = λ i. record { port = port-end i; armed = (ap (λ (v : ReaderState). v .session .armed) at-end ∙ raise-disarms 0x01 refl c m before before-sound) i }
+  session-end =
+      λ i. record { port = port-end i; armed = (ap (λ (v : ReaderState). v .session .armed) at-end ∙ raise-disarms 0x01 refl c m before before-sound) i }
 
   pub banks-end : runOf c m w (samplesOf c o) .banks ≡ banksRaised c m (isRead o) (w .banks) (runBytes c o)
   unfolding bitAt
@@ -177,7 +179,13 @@ module _ (c : Chip) (m : List ℕ) (w : ReaderState) (o : Order) (room : ℕ) (r
     where
       none : recordOf c m (before .banks) (before .session .port .settings) (eventOf c (before .session .port) 0x01) ≡ []
       none =
-          empty _ (omega (arith, record-size c m (before .banks) (before .session .port .settings) (eventOf c (before .session .port) 0x01), end-no-record c m w o room rest accepted))
+          empty _
+          (omega (
+            arith,
+            record-size c m (before .banks) (before .session .port .settings)
+                (eventOf c (before .session .port) 0x01),
+            end-no-record c m w o room rest accepted,
+          ))
 
   not-refused : (size : ℕ) → recordSize * o .count ≤ size → readNumber c m w (samplesOf c o) size ≡ 0
   not-refused size enough =

@@ -38,7 +38,8 @@ pub record Levels (csb sclk : Bool) (p : Port) : Type 0 where
 entered-levels : (c : Chip) (v : ℕ) (t : Settings) (u : InUse) → Levels false true (entered c v t u)
 unfolding entered
 entered-levels Newer v t u = record { low = refl; clock = refl }
-entered-levels (Older part top) v t u = each (Levels false true) (leb _ top) (λ e. record { low = refl; clock = refl }) (λ e. record { low = refl; clock = refl })
+entered-levels (Older part top) v t u =
+    each (Levels false true) (leb _ top) (λ e. record { low = refl; clock = refl }) (λ e. record { low = refl; clock = refl })
 
 bit-levels : (c : Chip) (ph : Phase) (p : Port) (x : ℕ) → csbOf x ≡ false → sclkOf x ≡ true → Levels false true (withBit c ph p x)
 unfolding withInstructionBit withDataBit
@@ -131,7 +132,8 @@ nothing-counted : (c : Chip) (w : ReaderState) (v : Event) (after : ReaderState)
     → recordsIn v + recordCount c (after .session .port) zs ≡ recordCount c (w .session .port) zs
 nothing-counted c w v after zs z g = rw (z, g) (zero-add _)
 
-alike : {csb sclk : Bool} {xs ys : List ℕ} → Slower csb sclk xs ys → (c : Chip) (m : List ℕ) (w : ReaderState) → Levels csb sclk (w .session .port) → Alike c m w xs ys
+alike : {csb sclk : Bool} {xs ys : List ℕ} → Slower csb sclk xs ys → (c : Chip) (m : List ℕ) (w : ReaderState) → Levels csb sclk (w .session .port)
+    → Alike c m w xs ys
 unfolding runOf recordsOf recordCount samplesGood
 alike end c m w l = record { state = refl; records = refl; count = refl; good = refl; shorter = omega arith }
 alike (kept x s) c m w l =

@@ -153,7 +153,8 @@ agree-next m chips i (s ∷ ss) x y gx gy r =
     let vx = sees chips i x gx in
     let vy = sees chips i y gy in
     let selects = eqb-true (y .selects) (x .selects) (and-left (eqb (y .selects) (x .selects)) (Bool·beq (sclkOf (y .lines)) (sclkOf (x .lines))) r) in
-    let clock = same-is (sclkOf (y .lines)) (sclkOf (x .lines)) (and-right (eqb (y .selects) (x .selects)) (Bool·beq (sclkOf (y .lines)) (sclkOf (x .lines))) r) in (
+    let clock =
+    same-is (sclkOf (y .lines)) (sclkOf (x .lines)) (and-right (eqb (y .selects) (x .selects)) (Bool·beq (sclkOf (y .lines)) (sclkOf (x .lines))) r) in (
       (vy .select ∙ ap (λ (n : ℕ). bitAt n i) selects ∙ sym (vx .select) ∙ sym (l .low), vy .clock ∙ clock ∙ sym (vx .clock) ∙ sym (l .clock)),
       agree-next m chips (i + 1) ss x y gx gy r,
     )
@@ -172,13 +173,16 @@ record AlikeAll (m : List ℕ) (ss : List State) (xs ys : List Sample) : Type 0 
   run : runAll m ss xs ≡ runAll m ss ys
   records : recordsAll m ss xs ≡ recordsAll m ss ys
 
-alike-all : {chips : ℕ} {before : Sample → Bool} {xs ys : List Sample} → SlowerAll chips before xs ys → (m : List ℕ) (ss : List State) → Knows chips before ss → SoundMarks ss
+alike-all : {chips : ℕ} {before : Sample → Bool} {xs ys : List Sample} → SlowerAll chips before xs ys → (m : List ℕ) (ss : List State) → Knows chips before ss
+    → SoundMarks ss
     → allGood chips xs ≡ true → AlikeAll m ss xs ys
 unfolding runAll recordsAll allGood
 alike-all end m ss knows marks good = record { run = refl; records = refl }
 alike-all {chips} (kept {xs = xs} x s) m ss knows marks good =
     let gx = and-left (sampleGood chips x) (allGood chips xs) good in
-    let a = alike-all s m (allAfter m 0 ss x) (λ y gy r. agree-next m chips 0 ss x y gx gy r) (marks-next m 0 ss x) (and-right (sampleGood chips x) (allGood chips xs) good) in
+    let a =
+    alike-all s m (allAfter m 0 ss x) (λ y gy r. agree-next m chips 0 ss x y gx gy r) (marks-next m 0 ss x)
+    (and-right (sampleGood chips x) (allGood chips xs) good) in
     record { run = a .run; records = ap (λ (l : List (List ℕ)). recordsAt m 0 ss x ++ l) (a .records) }
 alike-all {chips} (again {ys = ys} y gy r s) m ss knows marks good =
     let a = alike-all s m ss knows marks good in
@@ -201,7 +205,8 @@ shorter (again y gy r s) = let h = shorter s in omega (arith, h)
 
 -- ---- the call
 
-knows-last : (chips i : ℕ) (mem : List ℕ) (ws : List Member) (y : Sample) → sampleGood chips y ≡ true → repeatsLast i ws y ≡ true → Agree i (portsOf (statesOf mem ws)) y
+knows-last : (chips i : ℕ) (mem : List ℕ) (ws : List Member) (y : Sample) → sampleGood chips y ≡ true → repeatsLast i ws y ≡ true
+    → Agree i (portsOf (statesOf mem ws)) y
 unfolding repeatsLast
 knows-last chips i mem [] y gy r = tt
 knows-last chips i mem (w ∷ ws) y gy r =
@@ -218,7 +223,9 @@ mark-sound : (w : Member) → soundMember w ≡ true → eqb (w .contended) 1 �
 unfolding soundMember
 mark-sound w sound e =
     let one = eqb-true (w .contended) 1 e in
-    let marked = and-right (soundSession Newer (sessionOf (w .session))) (markGood w) (and-right (areSession (w .session)) (soundSession Newer (sessionOf (w .session)) && markGood w) sound) in
+    let marked =
+    and-right (soundSession Newer (sessionOf (w .session))) (markGood w)
+    (and-right (areSession (w .session)) (soundSession Newer (sessionOf (w .session)) && markGood w) sound) in
     let mid = midRead (sessionOf (w .session) .port) in
     let last = and-right (leb (w .contended) 1) (eqb (w .contended) 0 || mid) marked in
     subst (λ (n : ℕ). (eqb n 0 || mid) ≡ true) one last
@@ -226,9 +233,11 @@ mark-sound w sound e =
 marks-begin : (mem : List ℕ) (ws : List Member) → allSound ws ≡ true → SoundMarks (statesOf mem ws)
 unfolding allSound
 marks-begin mem [] sound = tt
-marks-begin mem (w ∷ ws) sound = (mark-sound w (and-left (soundMember w) (allSound ws) sound), marks-begin mem ws (and-right (soundMember w) (allSound ws) sound))
+marks-begin mem (w ∷ ws) sound =
+    (mark-sound w (and-left (soundMember w) (allSound ws) sound), marks-begin mem ws (and-right (soundMember w) (allSound ws) sound))
 
-module _ (m : List ℕ) (ws : List Member) (mem bytes slow old : List ℕ) (even-bytes : length bytes % 2 ≡ 0) (even-slow : length slow % 2 ≡ 0) (few : length slow ≤ 2 * 65536)
+module _ (m : List ℕ) (ws : List Member) (mem bytes slow old : List ℕ) (even-bytes : length bytes % 2 ≡ 0) (even-slow : length slow % 2 ≡ 0)
+    (few : length slow ≤ 2 * 65536)
     (s : SlowerAll (length ws) (repeatsLast 0 ws) (samplesIn bytes) (samplesIn slow)) where
   abbrev n : ℕ
   n = length ws
@@ -242,7 +251,8 @@ module _ (m : List ℕ) (ws : List Member) (mem bytes slow old : List ℕ) (even
 
   both-good : severalSamplesGood n bytes ≡ true → allGood n (samplesIn bytes) ≡ true
   both-good e =
-      and-right (leb (length bytes) (2 * 65536)) (allGood n (samplesIn bytes)) (and-right (eqb (length bytes % 2) 0) (leb (length bytes) (2 * 65536) && allGood n (samplesIn bytes)) e)
+      and-right (leb (length bytes) (2 * 65536)) (allGood n (samplesIn bytes))
+      (and-right (eqb (length bytes % 2) 0) (leb (length bytes) (2 * 65536) && allGood n (samplesIn bytes)) e)
 
   read-alike : allSound ws ≡ true → severalSamplesGood n bytes ≡ true → AlikeAll m (statesOf mem ws) (samplesIn bytes) (samplesIn slow)
   read-alike sound good = alike-all s m (statesOf mem ws) (knows-last n 0 mem ws) (marks-begin mem ws sound) (both-good good)

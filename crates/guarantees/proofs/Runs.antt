@@ -208,7 +208,8 @@ module _ (c : Chip) (read : Bool) (u : InUse) where
     unfolding run samples runFrom runBits next size rest
     byte-then fits none ih =
         ap (λ (l : List ℕ). eventsOf c (ready c sclk read left t u a) (take j l))
-        (clocked-then (byteBits (counting c u .«single_instruction») read (u .«lsb_first») first) (runBits (counting c u .«single_instruction») read (u .«lsb_first») (run next vs)) ending)
+        (clocked-then (byteBits (counting c u .«single_instruction») read (u .«lsb_first») first)
+        (runBits (counting c u .«single_instruction») read (u .«lsb_first») (run next vs)) ending)
         ∙ stopped-run-byte c read u t left first fits none j sclk (samples (run next vs))
         ∙ by-size (period-pos (counting c u .«single_instruction»)) (decLt j size) ih
 
@@ -243,15 +244,18 @@ module _ (c : Chip) (read : Bool) (u : InUse) where
   -- the samples of the first byte, and then those of the others
   pub byte-first : (vs : List ℕ) (v : ℕ) (t : Settings) (a left : ℕ) (sclk : Bool) → Fits c read u t (record { address = a; byte = v })
       → (counting c u .«single_instruction» ≡ true → left ≡ 0)
-      → foldl (stepOf c) (ready c sclk read left t u a) (clocked (runBits (counting c u .«single_instruction») read (u .«lsb_first») (runFrom (counting c u .ascending) a (v ∷ vs))))
+      → foldl (stepOf c) (ready c sclk read left t u a)
+      (clocked (runBits (counting c u .«single_instruction») read (u .«lsb_first») (runFrom (counting c u .ascending) a (v ∷ vs))))
       ≡ foldl (stepOf c) (afterWhole c read t u a left v)
-      (clocked (runBits (counting c u .«single_instruction») read (u .«lsb_first») (runFrom (counting c u .ascending) (nextAddress (counting c u .ascending) a) vs)))
+      (clocked
+      (runBits (counting c u .«single_instruction») read (u .«lsb_first») (runFrom (counting c u .ascending) (nextAddress (counting c u .ascending) a) vs)))
   unfolding runFrom runBits
   byte-first vs v t a left sclk fits none =
       let first : RunByte = record { address = a; byte = v } in
       let now = ready c sclk read left t u a in
       let byte = byteBits (counting c u .«single_instruction») read (u .«lsb_first») first in
-      let rest = runBits (counting c u .«single_instruction») read (u .«lsb_first») (runFrom (counting c u .ascending) (nextAddress (counting c u .ascending) a) vs) in
+      let rest =
+      runBits (counting c u .«single_instruction») read (u .«lsb_first») (runFrom (counting c u .ascending) (nextAddress (counting c u .ascending) a) vs) in
       ap (foldl (stepOf c) now) (clocked-append byte rest)
       ∙ fold-append (stepOf c) now (clocked byte) (clocked rest)
       ∙ ap (λ (s : Port). foldl (stepOf c) s (clocked rest)) (stepped-run-byte c read u t left first fits none sclk)
@@ -264,7 +268,8 @@ module _ (c : Chip) (read : Bool) (u : InUse) where
 
   pub run-no-bits : (vs : List ℕ) (v : ℕ) (t : Settings) (a left : ℕ) (sclk : Bool) → AllFit c read u t (runFrom (counting c u .ascending) a (v ∷ vs))
       → Goes c u left a (v ∷ vs) → (counting c u .«single_instruction» ≡ true → left ≡ 0)
-      → foldl (stepOf c) (ready c sclk read left t u a) (clocked (runBits (counting c u .«single_instruction») read (u .«lsb_first») (runFrom (counting c u .ascending) a (v ∷ vs)))) .bits
+      → foldl (stepOf c) (ready c sclk read left t u a)
+      (clocked (runBits (counting c u .«single_instruction») read (u .«lsb_first») (runFrom (counting c u .ascending) a (v ∷ vs)))) .bits
       ≡ 0
   unfolding runFrom runBits clocked
   run-no-bits [] v t a left sclk fit goes none =
@@ -272,7 +277,11 @@ module _ (c : Chip) (read : Bool) (u : InUse) where
   run-no-bits (w ∷ ws) v t a left sclk fit goes none =
       ap (λ (s : Port). s .bits)
       (byte-first (w ∷ ws) v t a left sclk (fit .0) none
-      ∙ ap (λ (s : Port). foldl (stepOf c) s (clocked (runBits (counting c u .«single_instruction») read (u .«lsb_first») (runFrom (counting c u .ascending) (nextAddress (counting c u .ascending) a) (w ∷ ws)))))
+      ∙ ap
+      (λ (s : Port). foldl (stepOf c) s
+      (clocked
+      (runBits (counting c u .«single_instruction») read (u .«lsb_first»)
+      (runFrom (counting c u .ascending) (nextAddress (counting c u .ascending) a) (w ∷ ws)))))
       (goes-on t a left v (goes .0)))
       ∙ run-no-bits ws w (settingsOn c t (Whole read a v)) (nextAddress (counting c u .ascending) a) (leftAfter left) true (fit .1) (goes .1)
       (λ e. rw (none e))

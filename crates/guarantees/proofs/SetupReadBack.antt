@@ -23,7 +23,7 @@ use Rattle.read_calls.specs.Calls.{outcome, readOf}
 use Rattle.send_order.specs.Order.{Order, RunByte, isRead, runBytes}
 use Rattle.send_order.specs.Samples.{samplesOf, allSamples}
 use Rattle.send_order.specs.Number.{isConfiguration}
-use Rattle.send_setup.specs.Form.{firstListed, afterFirst, withSettings, listedOf}
+use Rattle.send_setup.specs.Form.{firstListed, afterFirst, orderWith, listedOf}
 use Rattle.send_setup.specs.Calls.{mostOrders, ordersOf, firstBad}
 use Rattle.send_setup.proofs.Numbers.{none-bad, passed}
 use Rattle.guarantees.specs.AtRest.{AtRest, Accepted}
@@ -50,9 +50,9 @@ unfolding settingsLeft
 read-settings t [] = refl
 read-settings t (p ∷ ps) = read-settings t ps
 
-settings-kept : (read : Bool) (t : Settings) (ps : List RunByte) → (read || clearOfSettings Newer ps) ≡ true → settingsLeft Newer read t ps ≡ t
-settings-kept true t ps h = read-settings t ps
-settings-kept false t ps h = clear-settings t ps h
+settings-kept-by-run : (read : Bool) (t : Settings) (ps : List RunByte) → (read || clearOfSettings Newer ps) ≡ true → settingsLeft Newer read t ps ≡ t
+settings-kept-by-run true t ps h = read-settings t ps
+settings-kept-by-run false t ps h = clear-settings t ps h
 
 -- ---- the orders of a list to which the call gives 0 are accepted, each with the list's settings
 
@@ -70,18 +70,19 @@ AllAccepted : ℕ → List Order → Type 0
 AllAccepted settings [] = Unit {0}
 AllAccepted settings (o ∷ os) = (o .settings ≡ settings) × Accepted Newer o (length (samplesOf Newer o)) × AllAccepted settings os
 
-all-accepted : (settings k : ℕ) (l : List ℕ) → areBytes l ≡ true → firstBad (map (withSettings settings) (listedOf k l)) ≡ 0
-    → AllAccepted settings (map (withSettings settings) (listedOf k l))
+all-accepted : (settings k : ℕ) (l : List ℕ) → areBytes l ≡ true → firstBad (map (orderWith settings) (listedOf k l)) ≡ 0
+    → AllAccepted settings (map (orderWith settings) (listedOf k l))
 unfolding listedOf AllAccepted
 all-accepted settings zero l b z = tt
 all-accepted settings (suc k) l b z = go (eqb (length l) 0) z (all-accepted settings k (afterFirst l) (bytes-drop (2 + wordAt l 0) l b))
   where
-    go : (t : Bool) → firstBad (map (withSettings settings) (cond t [] (firstListed l ∷ listedOf k (afterFirst l)))) ≡ 0
-        → (firstBad (map (withSettings settings) (listedOf k (afterFirst l))) ≡ 0 → AllAccepted settings (map (withSettings settings) (listedOf k (afterFirst l))))
-        → AllAccepted settings (map (withSettings settings) (cond t [] (firstListed l ∷ listedOf k (afterFirst l))))
+    go : (t : Bool) → firstBad (map (orderWith settings) (cond t [] (firstListed l ∷ listedOf k (afterFirst l)))) ≡ 0
+        → (firstBad (map (orderWith settings) (listedOf k (afterFirst l))) ≡ 0 → AllAccepted settings
+        (map (orderWith settings) (listedOf k (afterFirst l))))
+        → AllAccepted settings (map (orderWith settings) (cond t [] (firstListed l ∷ listedOf k (afterFirst l))))
     go true z more = tt
     go false z more =
-        let f = none-bad (withSettings settings (firstListed l)) (map (withSettings settings) (listedOf k (afterFirst l))) z in
+        let f = none-bad (orderWith settings (firstListed l)) (map (orderWith settings) (listedOf k (afterFirst l))) z in
         (refl, record { number = f .0; data-bytes = bytes-take (wordAt l 0 - 6) (drop 8 l) (bytes-drop 8 l b) }, more (f .1))
 
 -- ---- one order after the other
@@ -158,7 +159,9 @@ left-all m w settings (o ∷ []) rest a h =
     left-more m w o [] _ (same-rest m w (anyOrder settings) o (a .0) rest) (a .1) (left-none m (statePast m w o))
 left-all m w settings (o ∷ p ∷ os) rest a h =
     let r = same-rest m w (anyOrder settings) o (a .0) rest in
-    let kept = settings-kept (isRead o) (w .session .port .settings) (runBytes Newer o) (and-left (isRead o || clearOfSettings Newer (runBytes Newer o)) (configuresLast (p ∷ os)) h) in
+    let kept =
+    settings-kept-by-run (isRead o) (w .session .port .settings) (runBytes Newer o)
+    (and-left (isRead o || clearOfSettings Newer (runBytes Newer o)) (configuresLast (p ∷ os)) h) in
     let again = same-rest m (statePast m w o) o (anyOrder settings) (sym (a .0)) (rests-again m w o _ r (a .1) kept) in
     left-more m w o (p ∷ os) _ r (a .1)
     (left-all m (statePast m w o) settings (p ∷ os) again (a .2) (and-right (isRead o || clearOfSettings Newer (runBytes Newer o)) (configuresLast (p ∷ os)) h))
@@ -169,6 +172,7 @@ setup-read-back m settings list room w records rest bytes z h enough =
     let p = passed settings list room z in
     let l = left-all m w settings (ordersOf settings list) rest (all-accepted settings mostOrders list bytes (p .fine)) h in
     let n : readNumber Newer m w (allSamples Newer (ordersOf settings list)) (length records) ≡ 0 =
-    no-refusal Newer m w (allSamples Newer (ordersOf settings list)) (length records) (rest .good-map) (rest .top) (rest-sound Newer m w (anyOrder settings) rest) (l .good)
+    no-refusal Newer m w (allSamples Newer (ordersOf settings list)) (length records) (rest .good-map) (rest .top)
+    (rest-sound Newer m w (anyOrder settings) rest) (l .good)
     (p .few) (omega (arith, l .count)) in
     rw n (λ i. outcome 0 (l .state i) (l .count i) (filled (l .records i) records))

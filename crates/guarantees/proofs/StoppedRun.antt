@@ -148,4 +148,5 @@ stopped-session c m w o room s raise calls run read =
     let sound = sound-run c m w (take s (samplesOf c o)) (run .start .sound) in
     let port = stepOf c (before .session .port) raise in
     rw (same, raise-disarms raise (run .raised) c m before sound)
-    (stops (sound-form c port (sound-step c (before .session .port) raise (port-sound c (before .session) sound))) (raise-high c (before .session .port) raise (run .raised)))
+    (stops (sound-form c port (sound-step c (before .session .port) raise (port-sound c (before .session) sound)))
+    (raise-high c (before .session .port) raise (run .raised)))

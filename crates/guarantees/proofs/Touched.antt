@@ -42,7 +42,10 @@ touched-bit ws b a h = ap (λ (l : List Bool). getD l a false) (touch-sets-one w
     inside = omega (arith, search-finds-next ws 0 .1)
 
     by : (t : Bool) → eqb b a ≡ t → getD (set (touchedBits ws) b true) a false ≡ (getD (touchedBits ws) a false || eqb b a)
-    by true t = rw t (ap (λ (i : ℕ). getD (set (touchedBits ws) b true) i false) (sym (eqb-true b a t)) ∙ getD-set-same (touchedBits ws) b true false inside ∙ sym (or-true (getD (touchedBits ws) a false)))
+    by true t =
+        rw t
+        (ap (λ (i : ℕ). getD (set (touchedBits ws) b true) i false) (sym (eqb-true b a t)) ∙ getD-set-same (touchedBits ws) b true false inside
+        ∙ sym (or-true (getD (touchedBits ws) a false)))
     by false t = rw t (getD-set-other (touchedBits ws) b a true false (λ q. eqb-false b a t (sym q)) ∙ sym (or-false (getD (touchedBits ws) a false)))
 
 -- ---- one event
@@ -75,7 +78,8 @@ module _ (c : Chip) (m ws : List ℕ) (b : Banks) (t : Settings) (h : Mapped m b
   event-bit (Whole true r v) a = sym (or-false (getD (touchedBits ws) a false))
   event-bit (Whole false r v) a =
       let back : r / 256 * 256 + r % 256 ≡ r = omega arith in
-      written-bit r v a ∙ ap (λ (x : Bool). getD (touchedBits ws) a false || x) (rw back (sym (or-false (eqb r a && touchesOn (writtenOf c m b t r v .effect)))))
+      written-bit r v a
+      ∙ ap (λ (x : Bool). getD (touchedBits ws) a false || x) (rw back (sym (or-false (eqb r a && touchesOn (writtenOf c m b t r v .effect)))))
   event-bit (Aborted r n d) a = sym (or-false (getD (touchedBits ws) a false))
   event-bit Ended a = sym (or-false (getD (touchedBits ws) a false))
 
@@ -150,5 +154,7 @@ none-set (suc n) (suc a) = none-set n a
 
 pub touched-since-mark : TouchedSinceMark
 touched-since-mark c m w words calls a e =
-    let none : isTouched w a ≡ false = ap (λ (ws : List ℕ). getD (touchedBits ws) a false) e ∙ ap (λ (l : List Bool). getD l a false) (mark-clears-all words) ∙ none-set (64 * length words) a in
+    let none : isTouched w a ≡ false =
+    ap (λ (ws : List ℕ). getD (touchedBits ws) a false) e ∙ ap (λ (l : List Bool). getD l a false) (mark-clears-all words)
+    ∙ none-set (64 * length words) a in
     touched-by c m w calls a ∙ ap (λ (x : Bool). x || named a (recordedBy c m w calls)) none

@@ -35,7 +35,8 @@ module _ (c : Chip) (m s : List ℕ) (act buf ws xs old : List ℕ) where
   no-session-next t = no _ t refl
 
   pub next-bytes : areSession s ≡ true → {given after : Session} → given ≡ sessionOf s → {n count taken : ℕ} {act′ buf′ ws′ new : List ℕ}
-      → nextrecord.nextOutcome (reader.outcome n (readerState after act′ buf′ ws′) count new) taken ≡ nextrecord.nextOf c m (readerState given act buf ws) xs old
+      → nextrecord.nextOutcome (reader.outcome n (readerState after act′ buf′ ws′) count new) taken
+      ≡ nextrecord.nextOf c m (readerState given act buf ws) xs old
       → (bytes : List ℕ) → bytes ≡ sessionBytes after
       → hostNext (hostOutcome n bytes (banks act′ buf′) ws′ count new) taken ≡ hostNextOf c m s (banks act buf) ws xs old
   unfolding hostNextOf

@@ -24,7 +24,8 @@ refused-as-given c m s b ws xs old small = go (areSession s) refl
 
     refused : (d : reader.Outcome) (z : Bool) → d .number ≡ 0 → areSession s ≡ true
         → hostOutcomeOf (cond z d (reader.outcome n (hostState s b ws) 0 old)) .number ≢ 0
-        → hostOutcomeOf (cond z d (reader.outcome n (hostState s b ws) 0 old)) ≡ hostOutcome (hostOutcomeOf (cond z d (reader.outcome n (hostState s b ws) 0 old)) .number) s b ws 0 old
+        → hostOutcomeOf (cond z d (reader.outcome n (hostState s b ws) 0 old))
+        ≡ hostOutcome (hostOutcomeOf (cond z d (reader.outcome n (hostState s b ws) 0 old)) .number) s b ws 0 old
     refused d true e t z = absurd (z e)
     refused d false e t z = rw (bytes-back s t small)
 

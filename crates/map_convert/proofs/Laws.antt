@@ -33,7 +33,14 @@ unfolding convertedTo headOf
 length-converted version m good =
     each (λ (l : List ℕ). length l ≡ headSizeIn version + entrySize * countOf m) (eqb (versionOf m) version)
     (λ t. good-form Newer m good ∙ ap (λ (v : ℕ). headSizeIn v + entrySize * countOf m) (eqb-true (versionOf m) version t))
-    (λ t. omega (arith, length-append (headBytes version (countOf m)) (drop (headOf m) m), length-head version (countOf m), length-drop (headOf m) m, good-form Newer m good))
+    (λ t. omega (
+      arith,
+      length-append (headBytes version (countOf m)) (drop (headOf m) m),
+      length-head version (countOf m),
+      length-drop
+          (headOf m) m,
+      good-form Newer m good,
+    ))
 
 -- what number 0 says: the map is good, what goes back has no flag, and the buffer has room
 pub record Accepted (version : ℕ) (m : List ℕ) (room : ℕ) : Type 0 where

@@ -39,8 +39,8 @@ five (a ∷ b ∷ c ∷ []) h = absurd (omega arith)
 five (a ∷ b ∷ c ∷ d ∷ []) h = absurd (omega arith)
 five (a ∷ b ∷ c ∷ d ∷ e ∷ l) h = refl
 
-next-byte : (m : List ℕ) (i : ℕ) → i < length m → byteAt m i ∷ drop (suc i) m ≡ drop i m
-next-byte m i h = sym (drop-cons m i 0 h)
+byte-then-rest : (m : List ℕ) (i : ℕ) → i < length m → byteAt m i ∷ drop (suc i) m ≡ drop i m
+byte-then-rest m i h = sym (drop-cons m i 0 h)
 
 byte-lt : (m : List ℕ) (i : ℕ) → areBytes m ≡ true → byteAt m i < 256
 byte-lt [] i h = omega arith
@@ -68,14 +68,15 @@ module _ (m : List ℕ) (good : mapNumber Newer m ≡ 0) (bytes : areBytes m ≡
       let h : headOf m ≡ 6 = rw v in
       let b : byteAt m 5 ≡ 0 = rw v at f in
       let l = length-bytes (4 + 3 * countOf m) (omega (arith, good-length Newer m good)) in
-      let d : 0 ∷ drop 6 m ≡ drop 5 m = ap (λ (x : ℕ). x ∷ drop 6 m) (sym b) ∙ next-byte m 5 (omega (arith, good-form Newer m good)) in
+      let d : 0 ∷ drop 6 m ≡ drop 5 m = ap (λ (x : ℕ). x ∷ drop 6 m) (sym b) ∙ byte-then-rest m 5 (omega (arith, good-form Newer m good)) in
       rw v
       ((λ i. sym (l .0) i ∷ sym (l .1) i ∷ sym v i ∷ sym (count-bytes .0) i ∷ sym (count-bytes .1) i ∷ d i)
       ∙ five m (omega (arith, good-form Newer m good)))
 
 -- ---- on such a map conversion computes
 
-to-other : (version wished : ℕ) → Wished version → Wished wished → (n : ℕ) (entries : List ℕ) → convertedTo wished (mapIn version n entries) ≡ mapIn wished n entries
+to-other : (version wished : ℕ) → Wished version → Wished wished → (n : ℕ) (entries : List ℕ)
+    → convertedTo wished (mapIn version n entries) ≡ mapIn wished n entries
 unfolding convertedTo headBytes countOf headOf
 to-other _ _ to-1 to-1 n entries = refl
 to-other _ _ to-1 to-2 n entries = rw (two-halves n)
@@ -141,7 +142,8 @@ same-in version wished a b n entries = record {
   same-entry = λ i. register-in version a n entries i ∙ sym (register-in wished b n entries i);
 }
 
-form-in : (version : ℕ) → Wished version → (n : ℕ) (entries : List ℕ) → 16 ≤ n → n ≤ 8192 → length entries ≡ 3 * n → every (formTests (mapIn version n entries)) ≡ true
+form-in : (version : ℕ) → Wished version → (n : ℕ) (entries : List ℕ) → 16 ≤ n → n ≤ 8192 → length entries ≡ 3 * n
+    → every (formTests (mapIn version n entries)) ≡ true
 unfolding every headBytes countOf headOf
 form-in _ to-1 n entries least most whole =
     let l : 2 + ((3 + 3 * n) / 256 * 256 + (3 + 3 * n) % 256) ≡ 5 + 3 * n = omega arith in
@@ -150,21 +152,32 @@ form-in _ to-1 n entries least most whole =
 form-in _ to-2 n entries least most whole =
     let l : 2 + ((4 + 3 * n) / 256 * 256 + (4 + 3 * n) % 256) ≡ 6 + 3 * n = omega arith in
     let s : suc (suc (suc (suc (suc (suc (length entries)))))) ≡ 6 + 3 * n = omega (arith, whole) in
-    rw (two-halves n, le-leb 5 (suc (suc (suc (suc (suc (suc (length entries))))))) (omega arith), le-leb 16 n least, le-leb n 8192 most, eq-eqb _ _ l, eq-eqb _ _ s)
+    rw (
+      two-halves n,
+      le-leb 5 (suc (suc (suc (suc (suc (suc (length entries)))))))
+          (omega arith),
+      le-leb 16 n least,
+      le-leb n 8192 most,
+      eq-eqb _ _ l,
+      eq-eqb _ _ s,
+    )
 
 -- ---- what a call makes
 
 copied : (wished : ℕ) (m : List ℕ) → mapNumber Newer m ≡ 0 → versionOf m ≡ wished → IsConverted wished m (convertedTo wished m)
 unfolding convertedTo
 copied wished m good v =
-    rw (eq-eqb (versionOf m) wished v) (record { good = good; wished = v; same-registers = record { same-count = refl; same-entry = λ a. refl }; same-flags = refl })
+    rw (eq-eqb (versionOf m) wished v)
+    (record { good = good; wished = v; same-registers = record { same-count = refl; same-entry = λ a. refl }; same-flags = refl })
 
 made-in :
     (version wished : ℕ) → Wished version → Wished wished → (n : ℕ) (entries : List ℕ) → 16 ≤ n → n ≤ 8192 → length entries ≡ 3 * n
     → mapNumber Newer (mapIn version n entries) ≡ 0 → IsConverted wished (mapIn version n entries) (mapIn wished n entries)
 unfolding headBytes
 made-in version wished a b n entries least most whole good = record {
-  good = good-alike Newer (mapIn version n entries) (mapIn wished n entries) (same-in version wished a b n entries) good (form-in wished b n entries least most whole);
+  good =
+      good-alike Newer (mapIn version n entries) (mapIn wished n entries) (same-in version wished a b n entries) good
+      (form-in wished b n entries least most whole);
   wished = version-in wished b;
   same-registers = same-in version wished a b n entries;
   same-flags = flags-in wished b ∙ sym (flags-in version a);
@@ -187,7 +200,8 @@ remade version wished a b m bytes good v f =
     let e = is-map m good bytes version a v f in
     let c : mapIn wished n entries ≡ convertedTo wished m = sym (to-other version wished a b n entries) ∙ ap (convertedTo wished) e in
     let whole : length entries ≡ 3 * n = omega (arith, length-drop (headOf m) m, good-form Newer m good) in
-    let made = made-in version wished a b n entries (good-count Newer m good .0) (good-count Newer m good .1) whole (subst (λ (x : List ℕ). mapNumber Newer x ≡ 0) (sym e) good) in
+    let made = made-in version wished a b n entries (good-count Newer m good .0) (good-count Newer m good .1) whole
+    (subst (λ (x : List ℕ). mapNumber Newer x ≡ 0) (sym e) good) in
     subst (λ (x : List ℕ). IsConverted wished x (convertedTo wished m)) e (subst (IsConverted wished (mapIn version n entries)) c made)
 
 -- a good map is of one of the versions

@@ -126,8 +126,10 @@ fixed-kept : (a : ℕ) (e : Entry) → Further a e → withFixedBytes a e ≡ e
 unfolding withFixedBytes
 fixed-kept a e f =
     each (λ (x : Entry). x ≡ e) (eqb a scratchPlace) (λ t. ap (λ (b : ℕ). entry (e .kind) b (e .default)) (sym (f .scratch (eqb-true a scratchPlace t))))
-    (λ s. each (λ (x : Entry). x ≡ e) (eqb a vendorLowPlace) (λ t. ap (λ (b : ℕ). entry (e .kind) (e .mask) b) (sym (f .vendor-low (eqb-true a vendorLowPlace t))))
-    (λ s. each (λ (x : Entry). x ≡ e) (eqb a vendorHighPlace) (λ t. ap (λ (b : ℕ). entry (e .kind) (e .mask) b) (sym (f .vendor-high (eqb-true a vendorHighPlace t))))
+    (λ s. each (λ (x : Entry). x ≡ e) (eqb a vendorLowPlace)
+    (λ t. ap (λ (b : ℕ). entry (e .kind) (e .mask) b) (sym (f .vendor-low (eqb-true a vendorLowPlace t))))
+    (λ s. each (λ (x : Entry). x ≡ e) (eqb a vendorHighPlace)
+    (λ t. ap (λ (b : ℕ). entry (e .kind) (e .mask) b) (sym (f .vendor-high (eqb-true a vendorHighPlace t))))
     (λ s. refl)))
 
 pub good-kept : (a : ℕ) (e : Entry) → entryGood placeKinds a e ≡ true → Further a e → mendedAt a e ≡ e

@@ -59,7 +59,8 @@ module _ (m : List ℕ) (f : Formed m) where
       let s : a + 1 ≡ suc a = omega arith in
       ap (λ (k : ℕ). sets (partly m a) k bytes) place
       ∙ sets-behind (mendedFrom m 0 a) rest 0 bytes
-      ∙ ap (λ (l : List ℕ). mendedFrom m 0 a ++ l) (sets-filled bytes rest room ∙ ap (λ (l : List ℕ). bytes ++ l) (drop-drop 3 (3 * a) (entriesOf m) ∙ ap (λ (k : ℕ). drop k (entriesOf m)) after))
+      ∙ ap (λ (l : List ℕ). mendedFrom m 0 a ++ l)
+      (sets-filled bytes rest room ∙ ap (λ (l : List ℕ). bytes ++ l) (drop-drop 3 (3 * a) (entriesOf m) ∙ ap (λ (k : ℕ). drop k (entriesOf m)) after))
       ∙ sym (append-assoc (mendedFrom m 0 a) bytes (drop (3 * (a + 1)) (entriesOf m)))
       ∙ ap (λ (l : List ℕ). l ++ drop (3 * (a + 1)) (entriesOf m))
       (sym (ap (mendedFrom m 0) s ∙ one-more m 0 a ∙ ap (λ (k : ℕ). mendedFrom m 0 a ++ entryBytes (mendedAt k (registerAt m k))) (zero-add a)))

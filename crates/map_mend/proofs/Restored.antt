@@ -85,7 +85,8 @@ module _ (m : List ℕ) (f : Formed m) where
       let old = mendedOnFrom a (suc k) in
       each (λ (l : List ℕ). restored (length (l ++ more) / listedSize) ((l ++ more) ++ rest) old ≡ restored n (more ++ rest) (mendedOnFrom (a + 1) k))
       (sameEntry (mendedAt a e) e)
-      (λ t. ap (λ (x : Entry). restored n (more ++ rest) (behind m (take (3 * a) (entriesOf m) ++ (entryBytes x ++ mendedFrom m (a + 1) k)))) (same-entry (mendedAt a e) e t)
+      (λ t. ap (λ (x : Entry). restored n (more ++ rest) (behind m (take (3 * a) (entriesOf m) ++ (entryBytes x ++ mendedFrom m (a + 1) k))))
+      (same-entry (mendedAt a e) e t)
       ∙ ap (restored n (more ++ rest)) (next-map a k h))
       (λ t.
       let size : suc (suc (suc (suc (suc (length more))))) / 5 ≡ suc (length more / 5) = omega arith in

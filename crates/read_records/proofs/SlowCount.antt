@@ -71,7 +71,7 @@ module _ {records : List ℕ} {all slow n : ℕ} (k : Counting records all slow 
   turned {asks} h e = record {
     within = omega arith;
     few = omega (arith, k .few, flag-most asks);
-    rest = rw (e, flag-number (asksSlow (drop (n * recordSize) records))) (omega (arith, joined, k .rest));
+    rest = rw (e, flag-number (asksSlow (drop (n * recordSize) records))) (omega (arith, one-more-counted, k .rest));
   }
     where
       place : (n + 1) * recordSize ≡ n * recordSize + recordSize
@@ -83,9 +83,9 @@ module _ {records : List ℕ} {all slow n : ℕ} (k : Counting records all slow 
       one : suc (all - (n + 1)) ≡ all - n
       one = omega arith
 
-      joined : bitOf (asksSlow (drop (n * recordSize) records)) + slowIn (all - (n + 1)) (drop ((n + 1) * recordSize) records)
+      one-more-counted : bitOf (asksSlow (drop (n * recordSize) records)) + slowIn (all - (n + 1)) (drop ((n + 1) * recordSize) records)
           ≡ slowIn (all - n) (drop (n * recordSize) records)
-      joined =
+      one-more-counted =
           ap (λ (l : List ℕ). bitOf (asksSlow (drop (n * recordSize) records)) + slowIn (all - (n + 1)) l) left
           ∙ ap (λ (j : ℕ). slowIn j (drop (n * recordSize) records)) one
 

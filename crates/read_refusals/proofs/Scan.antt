@@ -38,7 +38,8 @@ module _ (xs : List ℕ) (bits i : ℕ) (e : (leb bits 15 && samplesGood (drop i
   good-all h = sym (and-true (leb bits 15)) ∙ (rw (drop-of-length-le xs h) at e)
 
 -- a pass that puts no record asks nothing of the map, the banks and the buffer
-pub ready-to-count : (c : Chip) (m : List ℕ) (w : ReaderState) (xs old : List ℕ) → soundSession c (w .session) ≡ true → length xs ≤ 65536 → RunBefore c false m w xs old
+pub ready-to-count : (c : Chip) (m : List ℕ) (w : ReaderState) (xs old : List ℕ) → soundSession c (w .session) ≡ true → length xs ≤ 65536
+    → RunBefore c false m w xs old
 ready-to-count c m w xs old f h = record {
   sound = f;
   few = h;

@@ -50,7 +50,8 @@ bits-set [] q r h = refl
 bits-set (x ∷ ws) zero r h =
     let e : 64 * 0 + r ≡ r = omega arith in
     ap (λ (l : List Bool). l ++ touchedBits ws) (word-set 64 r x h)
-    ∙ sym (ap (λ (k : ℕ). set (wordBits 64 x ++ touchedBits ws) k true) e ∙ set-append-left (wordBits 64 x) (touchedBits ws) r true (omega (arith, length-word 64 x)))
+    ∙ sym
+    (ap (λ (k : ℕ). set (wordBits 64 x ++ touchedBits ws) k true) e ∙ set-append-left (wordBits 64 x) (touchedBits ws) r true (omega (arith, length-word 64 x)))
 bits-set (x ∷ ws) (suc q) r h =
     ap (λ (l : List Bool). wordBits 64 x ++ l) (bits-set ws q r h)
     ∙ sym (ap (λ (k : ℕ). set (wordBits 64 x ++ touchedBits ws) k true) (behind x q r) ∙ set-append-right (wordBits 64 x) (touchedBits ws) (64 * q + r) true)
@@ -71,12 +72,14 @@ bits-trues x ws h = trues-append (wordBits 64 x) (touchedBits ws) ∙ ap (λ (k 
 
 pub first-zero : (ws : List ℕ) → firstTrue (touchedBits (0 ∷ ws)) ≡ 64 + firstTrue (touchedBits ws)
 unfolding touchedBits
-first-zero ws = first-beyond (wordBits 64 0) (touchedBits ws) (word-none 64 ∙ sym (length-word 64 0)) ∙ ap (λ (k : ℕ). k + firstTrue (touchedBits ws)) (length-word 64 0)
+first-zero ws =
+    first-beyond (wordBits 64 0) (touchedBits ws) (word-none 64 ∙ sym (length-word 64 0)) ∙ ap (λ (k : ℕ). k + firstTrue (touchedBits ws)) (length-word 64 0)
 
 pub first-word : (x : ℕ) (ws : List ℕ) → x < 2 ^ 64 → (x ≡ 0 → ⊥) → firstTrue (touchedBits (x ∷ ws)) ≡ trailingZeros 64 x
 unfolding touchedBits
 first-word x ws h n =
-    first-here (wordBits 64 x) (touchedBits ws) (subst (λ (k : ℕ). firstTrue (wordBits 64 x) < k) (sym (length-word 64 x)) (word-some 64 x h n)) ∙ word-first 64 x
+    first-here (wordBits 64 x) (touchedBits ws) (subst (λ (k : ℕ). firstTrue (wordBits 64 x) < k) (sym (length-word 64 x)) (word-some 64 x h n))
+    ∙ word-first 64 x
 
 -- the bits from an address on: those left of its word, and the words after it
 bits-drop : (ws : List ℕ) (q r : ℕ) → r ≤ 64 → q < length ws
@@ -113,7 +116,8 @@ next-here ws q r hr hq h n =
     let some = word-some (64 - r) x small n in
     let e = word-first (64 - r) x in
     ap firstTrue (bits-drop ws q r (omega arith) hq)
-    ∙ first-here (wordBits (64 - r) x) (touchedBits (drop (suc q) ws)) (subst (λ (k : ℕ). firstTrue (wordBits (64 - r) x) < k) (sym (length-word (64 - r) x)) some)
+    ∙ first-here (wordBits (64 - r) x) (touchedBits (drop (suc q) ws))
+    (subst (λ (k : ℕ). firstTrue (wordBits (64 - r) x) < k) (sym (length-word (64 - r) x)) some)
     ∙ e ∙ sym (trailing-wider (64 - r) r x (subst (λ (k : ℕ). k < 64 - r) e some)) ∙ ap (λ (k : ℕ). trailingZeros k x) w
 
 -- it is 0: the first of the words after it

@@ -5,11 +5,9 @@ use mathlib.Core.List.{List, [], _∷_, reverse, reverse-cons}
 use mathlib.Core.Logic.{⊎-elim}
 use Prim.Native.Nat.{ℕ, suc, _+_, _-_, _<_}
 use native.Mathlib.Omega.{arith}
-use native.Mathlib.Numerals.{add-one}
 use native.Mathlib.Nat.{eq-or-lt-of-le, le-of-suc-le-suc}
-use lib.ListN.{length, getD, drop, length-reverse, List·getD-append}
-use lib.Seq.{drop-cons, getD-at}
-use Rattle.base_bits.proofs.Putting.{Splits}
+use lib.ListN.{length, getD, length-reverse, List·getD-append}
+use lib.Seq.{getD-at}
 use Rattle.send_frames.specs.Frames.{dataOf}
 
 pub length-data : (up : Bool) (vs : List ℕ) → length (dataOf up vs) ≡ length vs
@@ -31,7 +29,3 @@ reverse-at (v ∷ vs) i h =
     ∙ reverse-at vs i l
     ∙ ap (λ (k : ℕ). getD (v ∷ vs) k 0) (sym s))
     (eq-or-lt-of-le (le-of-suc-le-suc h))
-
--- the next byte of the data, and those after it
-pub next-byte : (l : List ℕ) (i : ℕ) → i < length l → Splits (drop i l) (getD l i 0 ∷ []) (drop (i + 1) l)
-next-byte l i h = record { split = rw add-one (drop-cons l i 0 h) }

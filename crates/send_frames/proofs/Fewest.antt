@@ -9,12 +9,13 @@ use native.Mathlib.Omega.{arith}
 use lib.ListN.{length, length-map}
 use lib.Dec.{eqb, leb}
 use borrow.Author.Tests.{eqb-true, eq-eqb, leb-true, le-leb, lt-leb}
+use Rattle.base_bits.proofs.Cases.{or-cases}
 use Rattle.bus_settings.specs.Settings.{nextAddress}
 use Rattle.base_chip.specs.declared.Chip.the-variants.{Newer}
 use Rattle.send_order.specs.Order.{Order, RunByte, sentBytes, runBytes, runFrom}
 use Rattle.send_frames.specs.Frames.{Stretch, wantedOf, stretchesOf, startOf, frameOf, framesOf}
 use Rattle.send_frames.specs.Fewest.{AllFrames, allBytes, bytesTo, FewestFrames}
-use Rattle.send_frames.proofs.Stretches.{Apart, good-apart, upFrom, registersIn, same-registers, goesTo, or-cases, goes-append, goes-cases, within-stretch, in-stretch, within-stretches}
+use Rattle.send_frames.proofs.Stretches.{Apart, good-apart, upFrom, registersIn, same-registers, goesTo, goes-append, goes-cases, within-stretch, in-stretch, within-stretches}
 
 -- ---- counting the numbers of a list from l on
 

@@ -5,7 +5,7 @@ use mathlib.Core.Bool.{Bool}
 use mathlib.Core.List.{List, [], _∷_, _++_, map}
 use Prim.Native.Nat.{ℕ}
 use Rattle.send_order.specs.Order.{Order}
-use Rattle.send_setup.specs.Form.{ListedOrder, withSettings, listBytes, listedOf}
+use Rattle.send_setup.specs.Form.{ListedOrder, orderWith, listBytes, listedOf}
 use Rattle.send_setup.specs.Calls.{mostOrders, ordersOf, firstBad}
 use Rattle.send_setup.proofs.Form.{list-back}
 use Rattle.send_frames.specs.Fewest.{AllFrames, FramesRead}
@@ -13,7 +13,7 @@ use Rattle.send_frames.proofs.Writes.{frames-made}
 
 module _ (up : Bool) (settings : ℕ) where
   abbrev made : List ListedOrder → List Order
-  made xs = map (withSettings settings) xs
+  made xs = map (orderWith settings) xs
 
   -- of orders in a row, those after some, and those before others
   later : (before xs : List ListedOrder) → AllFrames up (made (before ++ xs)) → AllFrames up (made xs)
@@ -35,7 +35,9 @@ pub frames-read : FramesRead
 unfolding ordersOf
 frames-read up settings addresses bytes before xs after good streams split few =
     let frames = frames-made up settings addresses bytes good streams .writes .frames in
-    let mine = earlier up settings xs after (later up settings before (xs ++ after) (subst (λ (l : List ListedOrder). AllFrames up (made up settings l)) split frames)) in
+    let mine =
+    earlier up settings xs after
+    (later up settings before (xs ++ after) (subst (λ (l : List ListedOrder). AllFrames up (made up settings l)) split frames)) in
     let back = list-back mostOrders xs few in
     let same : made up settings (listedOf mostOrders (listBytes xs)) ≡ made up settings xs = ap (made up settings) (back .1) in
     record { good = back .0; same = same; none-bad = ap firstBad same ∙ all-taken up settings xs mine }

@@ -9,7 +9,7 @@ use lib.ListN.{length}
 use lib.Dec.{eqb, leb, ltb}
 use borrow.Author.Tests.{eqb-true, eqb-false, leb-true, ltb-true, not-true}
 use Rattle.base_bits.specs.Tests.{every}
-use Rattle.base_bits.proofs.Cases.{each, and-left, and-right, or-left, every-true}
+use Rattle.base_bits.proofs.Cases.{each, and-left, and-right, or-left, or-cases, every-true}
 use Rattle.base_chip.specs.Registers.{configurationA, configurationB, transferRegister}
 use Rattle.send_order.specs.Order.{RunByte}
 use Rattle.send_frames.specs.Frames.{Stretch, joinedTo, stretchesOf, wantedOf}
@@ -68,7 +68,8 @@ good-rising (a ∷ rest) (v ∷ bytes) r m =
     let here = and-left (mayBeListed a) (allMayBeListed rest) m in
     let low = leb-true a 0x7FFF (and-left (leb a 0x7FFF) _ here) in
     let control = not-true (eqb a configurationA || eqb a configurationB || eqb a transferRegister) (and-right (leb a 0x7FFF) _ here) in
-    let first = or-left (eqb a configurationA) (eqb a configurationB) (or-left (eqb a configurationA || eqb a configurationB) (eqb a transferRegister) control) in
+    let first =
+    or-left (eqb a configurationA) (eqb a configurationB) (or-left (eqb a configurationA || eqb a configurationB) (eqb a transferRegister) control) in
     let above : a ≡ 0 → ⊥ = eqb-false a 0 first in
     (omega arith, omega arith, rising-after a rest bytes r (and-right (mayBeListed a) (allMayBeListed rest) m))
 
@@ -107,10 +108,6 @@ same-registers (p ∷ ps) = joined-registers p (stretchesOf ps) ∙ ap (λ (l : 
 abbrev pub goesTo : ℕ → List RunByte → Bool
 goesTo a [] = false
 goesTo a (p ∷ ps) = eqb (p .address) a || goesTo a ps
-
-pub or-cases : (a b : Bool) → (a || b) ≡ true → (a ≡ true) ⊎ (b ≡ true)
-or-cases true b h = inl refl
-or-cases false b h = inr h
 
 pub goes-append : (a : ℕ) (ps qs : List RunByte) → goesTo a (ps ++ qs) ≡ (goesTo a ps || goesTo a qs)
 goes-append a [] qs = refl

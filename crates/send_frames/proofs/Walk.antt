@@ -97,7 +97,8 @@ pub size-from : (addresses bytes : List ℕ) → Sizing addresses bytes 0 0
 size-from addresses bytes = record { within = omega arith; sum = omega arith; most = omega arith }
 
 module _ {addresses bytes : List ℕ} {size from : ℕ} (g : Good addresses bytes) (s : Sizing addresses bytes size from) where
-  pub size-on : from < length addresses → (end : ℕ) → end ≡ endFrom addresses from → Sizing addresses bytes (size + (8 + length (take (end - from) (drop from bytes)))) end
+  pub size-on : from < length addresses → (end : ℕ) → end ≡ endFrom addresses from
+      → Sizing addresses bytes (size + (8 + length (take (end - from) (drop from bytes)))) end
   unfolding stretchesSize
   size-on h end e =
       let n = length-part addresses bytes (g .pairs) from h end e in
@@ -144,7 +145,8 @@ module _ {up : Bool} {addresses bytes old : List ℕ} {from n : ℕ} {new : List
   next-apart : Apart (s .least) (here ∷ stretchesFrom addresses bytes end)
   next-apart = rw split at (s .apart)
 
-  splits : Splits (listBytes (map (frameOf up) (stretchesFrom addresses bytes from))) (listedBytes (frameOf up here)) (listBytes (map (frameOf up) (stretchesFrom addresses bytes end)))
+  splits : Splits (listBytes (map (frameOf up) (stretchesFrom addresses bytes from))) (listedBytes (frameOf up here))
+      (listBytes (map (frameOf up) (stretchesFrom addresses bytes end)))
   unfolding listBytes
   splits = record { split = ap (λ (ss : List Stretch). listBytes (map (frameOf up) ss)) split }
 

@@ -14,7 +14,7 @@ use Rattle.base_chip.specs.declared.Chip.the-variants.{Newer}
 use Rattle.send_order.specs.Order.{Order, order, RunByte, runBytes, runFrom}
 use Rattle.send_order.specs.Samples.{samplesOf}
 use Rattle.send_order.specs.Number.{sendNumber}
-use Rattle.send_setup.specs.Form.{ListedOrder, withSettings}
+use Rattle.send_setup.specs.Form.{ListedOrder, orderWith}
 use Rattle.send_setup.specs.Calls.{ownNumber}
 use Rattle.send_frames.specs.Frames.{Stretch, wantedOf, stretchesOf, startOf, dataOf, frameOf, framesOf}
 use Rattle.send_frames.specs.Calls.{rising}
@@ -133,7 +133,7 @@ start-rises false s r h k gap = omega arith
 
 module _ (up : Bool) (t : ℕ) (streams : Streams up t) where
   abbrev orders : List Stretch → List Order
-  orders ss = map (withSettings t) (map (frameOf up) ss)
+  orders ss = map (orderWith t) (map (frameOf up) ss)
 
   all-frames : (l : ℕ) (ss : List Stretch) → Apart l ss → Short ss → AllFrames up (orders ss)
   unfolding AllFrames
@@ -153,7 +153,7 @@ module _ (up : Bool) (t : ℕ) (streams : Streams up t) where
   unfolding allBytes
   exactly a l [] h = refl
   exactly a l (s ∷ ss) h =
-      to-append a (runBytes Newer (withSettings t (frameOf up s))) (allBytes (orders ss))
+      to-append a (runBytes Newer (orderWith t (frameOf up s))) (allBytes (orders ss))
       ∙ rw (exactly a (s .lowest + length (s .bytes) + 1) ss (h .3), streams .direction, either-run up a (s .lowest) (s .bytes) (h .1) (h .2))
       (sym (to-append a (upFrom (s .lowest) (s .bytes)) (registersIn ss)))
 

@@ -10,7 +10,7 @@ use Rattle.base_bits.specs.Tests.{every}
 use Rattle.base_bits.specs.Bits.{bitAt}
 use Rattle.base_chip.specs.declared.Chip.the-variants.{Newer}
 use Rattle.send_order.specs.Order.{Order, RunByte, isRead, singleInstruction, ascending, runBytes}
-use Rattle.send_setup.specs.Form.{ListedOrder, listBytes, listGood, withSettings}
+use Rattle.send_setup.specs.Form.{ListedOrder, listBytes, listGood, orderWith}
 use Rattle.send_setup.specs.Calls.{mostOrders, ordersOf, ownNumber, firstBad}
 use Rattle.send_frames.specs.Frames.{wantedOf, framesOf}
 use Rattle.send_frames.specs.Calls.{rising, registersTests}
@@ -56,7 +56,7 @@ pub record Streams (up : Bool) (settings : ℕ) : Type 0 where
 
 -- The orders made are such a set, by rising start.
 pub record RightFrames (up : Bool) (settings : ℕ) (wanted : List RunByte) : Type 0 where
-  pub writes : Writes up wanted (map (withSettings settings) (framesOf up wanted))
+  pub writes : Writes up wanted (map (orderWith settings) (framesOf up wanted))
   pub by-start : rising (map (λ (x : ListedOrder). x .start) (framesOf up wanted)) ≡ true
 
 abbrev pub FramesMade : Type 0
@@ -67,7 +67,7 @@ FramesMade =
 -- Up to 64 of them in a row are read by Ask 6 as they were made: the list is good, its orders are these, and none is bad.
 pub record ReadAsMade (settings : ℕ) (xs : List ListedOrder) : Type 0 where
   pub good : listGood mostOrders (listBytes xs) ≡ true
-  pub same : ordersOf settings (listBytes xs) ≡ map (withSettings settings) xs
+  pub same : ordersOf settings (listBytes xs) ≡ map (orderWith settings) xs
   pub none-bad : firstBad (ordersOf settings (listBytes xs)) ≡ 0
 
 abbrev pub FramesRead : Type 0

@@ -16,7 +16,8 @@ use Rattle.bus_settings.proofs.Laws.{next-lt}
 
 -- whether the addresses from i on configure early: by the address of byte i where it is not the last, and those after it
 early-next : (up : Bool) (a : ℕ) (vs : List ℕ) (i : ℕ) → i + 1 < length vs
-    → configuresEarly (runFrom up a (drop i vs)) ≡ (eqb a configurationA || eqb a configurationB || configuresEarly (runFrom up (nextAddress up a) (drop (i + 1) vs)))
+    → configuresEarly (runFrom up a (drop i vs))
+    ≡ (eqb a configurationA || eqb a configurationB || configuresEarly (runFrom up (nextAddress up a) (drop (i + 1) vs)))
 unfolding configuresEarly runFrom
 early-next up a vs i h =
     let h0 : i < length vs = omega arith in

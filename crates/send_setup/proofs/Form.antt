@@ -17,40 +17,40 @@ halves n = omega arith
 
 -- one order, with what comes after it
 module _ (x : ListedOrder) (rest : List ℕ) where
-  abbrev joined : List ℕ
-  joined = listedBytes x ++ rest
+  abbrev bytesOn : List ℕ
+  bytesOn = listedBytes x ++ rest
 
-  length-read : wordAt joined 0 ≡ 6 + length (x .bytes)
+  length-read : wordAt bytesOn 0 ≡ 6 + length (x .bytes)
   unfolding listedBytes
   length-read = halves (6 + length (x .bytes))
 
-  length-joined : length joined ≡ 8 + length (x .bytes) + length rest
+  length-bytes-on : length bytesOn ≡ 8 + length (x .bytes) + length rest
   unfolding listedBytes
-  length-joined = omega (arith, length-append (x .bytes) rest)
+  length-bytes-on = omega (arith, length-append (x .bytes) rest)
 
-  stands-whole : every (wholeTests joined) ≡ true
+  stands-whole : every (wholeTests bytesOn) ≡ true
   unfolding listedBytes every
   stands-whole =
       rw (
-        le-leb 6 (wordAt joined 0) (omega (arith, length-read)),
-        le-leb (2 + wordAt joined 0) (length joined) (omega (arith, length-read, length-joined)),
+        le-leb 6 (wordAt bytesOn 0) (omega (arith, length-read)),
+        le-leb (2 + wordAt bytesOn 0) (length bytesOn) (omega (arith, length-read, length-bytes-on)),
       )
 
-  first-back : firstListed joined ≡ x
+  first-back : firstListed bytesOn ≡ x
   unfolding listedBytes
   first-back =
-      let n : wordAt joined 0 - 6 ≡ length (x .bytes) = omega (arith, length-read) in
-      let b : take (wordAt joined 0 - 6) (x .bytes ++ rest) ≡ x .bytes = ap (λ (k : ℕ). take k (x .bytes ++ rest)) n ∙ take-append-seam (x .bytes) rest in
+      let n : wordAt bytesOn 0 - 6 ≡ length (x .bytes) = omega (arith, length-read) in
+      let b : take (wordAt bytesOn 0 - 6) (x .bytes ++ rest) ≡ x .bytes = ap (λ (k : ℕ). take k (x .bytes ++ rest)) n ∙ take-append-seam (x .bytes) rest in
       λ i. listed (x .direction) (halves (x .start) i) (halves (x .count) i) (b i)
 
-  rest-back : afterFirst joined ≡ rest
+  rest-back : afterFirst bytesOn ≡ rest
   unfolding listedBytes
   rest-back =
-      let n : 2 + wordAt joined 0 ≡ suc (suc (suc (suc (suc (suc (suc (suc (length (x .bytes))))))))) = omega (arith, length-read) in
-      ap (λ (k : ℕ). drop k joined) n ∙ drop-append-seam (x .bytes) rest
+      let n : 2 + wordAt bytesOn 0 ≡ suc (suc (suc (suc (suc (suc (suc (suc (length (x .bytes))))))))) = omega (arith, length-read) in
+      ap (λ (k : ℕ). drop k bytesOn) n ∙ drop-append-seam (x .bytes) rest
 
-  not-empty : eqb (length joined) 0 ≡ false
-  not-empty = ne-eqb (length joined) 0 (λ e. omega (arith, length-joined))
+  not-empty : eqb (length bytesOn) 0 ≡ false
+  not-empty = ne-eqb (length bytesOn) 0 (λ e. omega (arith, length-bytes-on))
 
 pub list-back : (k : ℕ) (xs : List ListedOrder) → length xs ≤ k → (listGood k (listBytes xs) ≡ true) × (listedOf k (listBytes xs) ≡ xs)
 unfolding listGood listedOf listBytes

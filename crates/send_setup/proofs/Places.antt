@@ -14,7 +14,7 @@ use Rattle.base_bits.specs.Tests.{every}
 use Rattle.base_bits.proofs.Cases.{every-true, joined-every}
 use Rattle.send_order.specs.Order.{order, withData}
 use Rattle.send_order.specs.declared.Order as declared
-use Rattle.send_setup.specs.Form.{wholeTests, firstListed, afterFirst, withSettings}
+use Rattle.send_setup.specs.Form.{wholeTests, firstListed, afterFirst, orderWith}
 
 word-drop : (l : List ℕ) (n i : ℕ) → wordAt (drop n l) i ≡ wordAt l (n + i)
 word-drop l n i = rw (getD-drop n l i 0, getD-drop n l (i + 1) 0, ← add-assoc n i 1)
@@ -66,13 +66,13 @@ count-here l n = sym (word-drop l n 6)
 
 pub order-here : (settings : ℕ) (l : List ℕ) (n : ℕ)
     → let x = firstListed (drop n l) in
-    order (byteAt l (n + 3)) settings (wordAt l (n + 4)) (x .count) (x .bytes) ≡ withSettings settings x
+    order (byteAt l (n + 3)) settings (wordAt l (n + 4)) (x .count) (x .bytes) ≡ orderWith settings x
 order-here settings l n = rw (word-drop l n 4, getD-drop n l 3 0)
 
 -- and with its data, which ends where the order does
 pub data-here : (o : declared.Order) (settings : ℕ) (l : List ℕ) (n end : ℕ) → end ≡ n + 2 + wordAt l n
-    → withData o (firstListed (drop n l) .bytes) ≡ withSettings settings (firstListed (drop n l))
-    → withData o (take (end - (n + 8)) (drop (n + 8) l)) ≡ withSettings settings (firstListed (drop n l))
+    → withData o (firstListed (drop n l) .bytes) ≡ orderWith settings (firstListed (drop n l))
+    → withData o (take (end - (n + 8)) (drop (n + 8) l)) ≡ orderWith settings (firstListed (drop n l))
 data-here o settings l n end e h =
     let k : end - (n + 8) ≡ wordAt (drop n l) 0 - 6 = omega (arith, length-here l n) in
     let bytes : take (end - (n + 8)) (drop (n + 8) l) ≡ firstListed (drop n l) .bytes = rw (k, drop-drop 8 n l) in

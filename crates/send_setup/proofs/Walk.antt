@@ -11,7 +11,7 @@ use Rattle.base_bits.specs.Bytes.{wordAt}
 use Rattle.base_bits.specs.Tests.{every}
 use Rattle.base_bits.proofs.Cases.{and-left, and-right}
 use Rattle.send_order.specs.Order.{Order}
-use Rattle.send_setup.specs.Form.{wholeTests, firstListed, afterFirst, withSettings, listGood, listedOf}
+use Rattle.send_setup.specs.Form.{wholeTests, firstListed, afterFirst, orderWith, listGood, listedOf}
 use Rattle.send_setup.specs.Calls.{mostOrders, ordersOf}
 use Rattle.send_setup.specs.Look.{endAt}
 use Rattle.send_setup.proofs.Places.{Stands, stands, after-here}
@@ -74,11 +74,11 @@ module _ {l : List ℕ} {n left : ℕ} {good : Bool} (w : Testing l n left good)
 
 -- the orders that a list has from a place on, good or not
 abbrev pub ordersFrom : ℕ → List ℕ → ℕ → ℕ → List Order
-ordersFrom settings l n left = map (withSettings settings) (listedOf left (drop n l))
+ordersFrom settings l n left = map (orderWith settings) (listedOf left (drop n l))
 
 -- the order that stands at a place
 abbrev pub orderAt : ℕ → List ℕ → ℕ → Order
-orderAt settings l n = withSettings settings (firstListed (drop n l))
+orderAt settings l n = orderWith settings (firstListed (drop n l))
 
 pub orders-split : (settings : ℕ) (l : List ℕ) (n left : ℕ) → (left ≡ 0 → ⊥) → n < length l
     → ordersFrom settings l n left ≡ orderAt settings l n ∷ ordersFrom settings l (n + 2 + wordAt l n) (left - 1)
@@ -92,7 +92,7 @@ pub orders-end : (settings : ℕ) (l : List ℕ) (n left : ℕ) → length l ≤
 unfolding listedOf
 orders-end settings l n left h = rw (drop-of-length-le l {i = n} h) (none left)
   where
-    none : (k : ℕ) → map (withSettings settings) (listedOf k []) ≡ []
+    none : (k : ℕ) → map (orderWith settings) (listedOf k []) ≡ []
     none zero = refl
     none (suc k) = refl
 
@@ -100,7 +100,7 @@ orders-end settings l n left h = rw (drop-of-length-le l {i = n} h) (none left)
 pub record ToGo (settings : ℕ) (l : List ℕ) (n : ℕ) (os : List Order) : Type 0 where
   pub left : ℕ
   pub good : listGood left (drop n l) ≡ true
-  pub orders : os ≡ map (withSettings settings) (listedOf left (drop n l))
+  pub orders : os ≡ map (orderWith settings) (listedOf left (drop n l))
 
 pub all-to-go : (settings : ℕ) (l : List ℕ) → listGood mostOrders l ≡ true → ToGo settings l 0 (ordersOf settings l)
 unfolding ordersOf
@@ -117,14 +117,14 @@ pub next-order : {settings : ℕ} {l : List ℕ} {n : ℕ} {os : List Order} →
 unfolding listGood listedOf
 next-order {settings} {l} {n} {os} t h = go (t .left) (t .good) (t .orders)
   where
-    go : (k : ℕ) → listGood k (drop n l) ≡ true → os ≡ map (withSettings settings) (listedOf k (drop n l)) → Next settings l n os
+    go : (k : ℕ) → listGood k (drop n l) ≡ true → os ≡ map (orderWith settings) (listedOf k (drop n l)) → Next settings l n os
     go zero g e = absurd (omega (arith, eqb-true (length (drop n l)) 0 g, length-drop n l))
     go (suc k) g e =
         let some : eqb (length (drop n l)) 0 ≡ false = ne-eqb (length (drop n l)) 0 (λ z. omega (arith, length-drop n l)) in
         let both : (every (wholeTests (drop n l)) && listGood k (afterFirst (drop n l))) ≡ true = rw some at g in
         record {
           whole = and-left (every (wholeTests (drop n l))) (listGood k (afterFirst (drop n l))) both;
-          others = map (withSettings settings) (listedOf k (afterFirst (drop n l)));
+          others = map (orderWith settings) (listedOf k (afterFirst (drop n l)));
           split = e ∙ rw some;
           onward = record {
             left = k;

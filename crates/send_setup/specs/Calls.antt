@@ -13,7 +13,7 @@ use Rattle.send_order.specs.Order.{Order}
 use Rattle.send_order.specs.Samples.{samplesOf, allSamples}
 use Rattle.send_order.specs.Number.{sendNumber}
 use Rattle.send_samples.specs.Calls.{Sending, sending}
-use Rattle.send_setup.specs.Form.{withSettings, listGood, listedOf}
+use Rattle.send_setup.specs.Form.{orderWith, listGood, listedOf}
 
 -- up to 64 orders
 abbrev pub mostOrders : ℕ
@@ -25,7 +25,7 @@ mostSamples = 65536
 
 -- the orders of a list, each with the one settings number
 unfoldable pub ordersOf : ℕ → List ℕ → List Order
-ordersOf settings list = map (withSettings settings) (listedOf mostOrders list)
+ordersOf settings list = map (orderWith settings) (listedOf mostOrders list)
 
 -- the number of an order by itself, 7 to 10: it has just the room that it needs, so this is never 11
 abbrev pub ownNumber : Order → ℕ

@@ -19,8 +19,8 @@ abbrev pub listed : ℕ → ℕ → ℕ → List ℕ → ListedOrder
 listed direction start count bytes = record { direction = direction; start = start; count = count; bytes = bytes }
 
 -- the order to the sender, with the list's settings number
-abbrev pub withSettings : ℕ → ListedOrder → Order
-withSettings settings x = order (x .direction) settings (x .start) (x .count) (x .bytes)
+abbrev pub orderWith : ℕ → ListedOrder → Order
+orderWith settings x = order (x .direction) settings (x .start) (x .count) (x .bytes)
 
 -- Each order is a 16-bit length of what follows, a version byte 1, direction, 16-bit start, 16-bit count, data, all big-endian.
 unfoldable pub listedBytes : ListedOrder → List ℕ

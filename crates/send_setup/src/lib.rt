@@ -12,7 +12,7 @@ ghost use Rattle.base_chip.specs.declared.Chip.the-variants.{Newer};
 ghost use Rattle.send_order.specs.Samples.{samplesOf, allSamples};
 ghost use Rattle.send_order.specs.Number.{sendNumber};
 ghost use Rattle.send_samples.specs.Calls.{sending};
-ghost use Rattle.send_setup.specs.Form.{wholeTests, firstListed, withSettings, listGood};
+ghost use Rattle.send_setup.specs.Form.{wholeTests, firstListed, orderWith, listGood};
 ghost use Rattle.send_setup.specs.Calls.{ordersOf, ownNumber, setupNumber, setupOf};
 ghost use Rattle.send_setup.specs.Look.{LookAfter};
 
@@ -46,7 +46,7 @@ const ROOM_FOR_ANY: usize = 0x40_0000;
 // The number of the order at a place of the list, by itself, with the place after it.
 fn number_at(settings: u64, list: &[u8], at: usize, end: usize) -> u8
     requires { ⌜ (every (wholeTests (drop at (now list))) ≡ true) × (end ≡ at + 2 + wordAt (now list) at) ⌝ }
-    ensures { λ r. ⌜ r ≡ ownNumber (withSettings settings (firstListed (drop at (now (list .entry))))) ⌝ }
+    ensures { λ r. ⌜ r ≡ ownNumber (orderWith settings (firstListed (drop at (now (list .entry))))) ⌝ }
 {
     let from = at + DATA_AT;
     let order = order_at(settings, list, at);
@@ -155,9 +155,9 @@ fn send_at(
     n: usize,
 ) -> usize
     requires { ⌜ (every (wholeTests (drop at (now list))) ≡ true) × (n ≤ length (now out)) ⌝ }
-    requires { ⌜ sendNumber Newer (withSettings settings (firstListed (drop at (now list)))) (length (drop n (now out))) ≡ 0 ⌝ }
+    requires { ⌜ sendNumber Newer (orderWith settings (firstListed (drop at (now list)))) (length (drop n (now out))) ≡ 0 ⌝ }
     requires { ⌜ IsCard (now card) ⌝ }
-    ensures { λ r. ⌜ Put (now (out .entry)) n (samplesOf Newer (withSettings settings (firstListed (drop at (now (list .entry)))))) r (now (out .exit)) ⌝ }
+    ensures { λ r. ⌜ Put (now (out .entry)) n (samplesOf Newer (orderWith settings (firstListed (drop at (now (list .entry)))))) r (now (out .exit)) ⌝ }
 {
     let from = at + DATA_AT;
     let end = after(list, at);

@@ -6,7 +6,7 @@ ghost use lib.ListN.{length, drop};
 ghost use Rattle.base_bits.specs.Bytes.{wordAt};
 ghost use Rattle.base_bits.specs.Tests.{every};
 ghost use Rattle.send_order.specs.Order.{withData};
-ghost use Rattle.send_setup.specs.Form.{wholeTests, firstListed, withSettings};
+ghost use Rattle.send_setup.specs.Form.{wholeTests, firstListed, orderWith};
 ghost use Rattle.send_setup.specs.Look.{endAt};
 use send_order::Order;
 
@@ -73,7 +73,7 @@ pub fn count_at(list: &[u8], at: usize) -> usize
 // The order that stands at a place, but for its data.
 pub fn order_at(settings: u64, list: &[u8], at: usize) -> Order
     requires { ⌜ every (wholeTests (drop at (now list))) ≡ true ⌝ }
-    ensures { λ r. ⌜ withData r (firstListed (drop at (now (list .entry))) .bytes) ≡ withSettings settings (firstListed (drop at (now (list .entry)))) ⌝ }
+    ensures { λ r. ⌜ withData r (firstListed (drop at (now (list .entry))) .bytes) ≡ orderWith settings (firstListed (drop at (now (list .entry)))) ⌝ }
 {
     Order {
         direction: list[at + 3] as u64,

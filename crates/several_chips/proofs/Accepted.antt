@@ -9,7 +9,7 @@ use borrow.Author.Tests.{leb-true, leb-false, eqb-true, eqb-false}
 use lib.Dec.{eqb, leb}
 use lib.ListN.{length}
 use Rattle.base_bits.specs.Tests.{unless}
-use Rattle.base_bits.proofs.Cases.{and-left, and-right}
+use Rattle.base_bits.proofs.Cases.{and-left, and-right, or-cases}
 use Rattle.base_chip.specs.declared.Chip.the-variants.{Newer}
 use Rattle.map_format.specs.Format.{countOf}
 use Rattle.map_test.specs.MapTest.{mapNumber}
@@ -28,10 +28,6 @@ pub record Accepted (m : List ℕ) (ws : List Member) (size : ℕ) (bytes : List
   pub enough : severalRecordSize * countFrom 0 ws (samplesIn bytes) ≤ room
 
 -- ---- ranges
-
-or-cases : (a b : Bool) → (a || b) ≡ true → (a ≡ true) ⊎ (b ≡ true)
-or-cases true b e = inl refl
-or-cases false b e = inr e
 
 total : (a b : ℕ) → (a ≤ b) ⊎ (b ≤ a)
 total a b = go (leb a b) refl
@@ -66,7 +62,8 @@ far n a b e = first (or-cases (eqb n 0 || eqb n 0) (leb (a + n) b || leb (b + n)
 -- the same of ranges whose lengths are told to be n
 far-ranges : (n : ℕ) (r s : Range) → r .size ≡ n → s .size ≡ n → apart r s ≡ true → Far n (r .start) (s .start)
 far-ranges n r s er es e =
-    far n (r .start) (s .start) (sym (ap (λ (k : ℕ). apart (record { start = r .start; size = k }) s) er ∙ ap (λ (k : ℕ). apart (record { start = r .start; size = n }) (record { start = s .start; size = k })) es) ∙ e)
+    far n (r .start) (s .start) (sym (ap (λ (k : ℕ). apart (record { start = r .start; size = k }) s) er
+    ∙ ap (λ (k : ℕ). apart (record { start = r .start; size = n }) (record { start = s .start; size = k })) es) ∙ e)
 
 abbrev activeRange : Member → Range
 activeRange w = record { start = w .«active_start»; size = w .«active_length» }
@@ -146,7 +143,9 @@ all-ranged m size (w ∷ ws) fit good =
         buffer-length = fb;
         active-fits = omega (arith, fa, head-inside size (activeRange w) (bufferRange w ∷ rangesOf ws) good);
         buffer-fits = omega (arith, fb, head-inside size (bufferRange w) (rangesOf ws) after);
-        apart = far-ranges (countOf m) (activeRange w) (bufferRange w) fa fb (and-left (apart (activeRange w) (bufferRange w)) (apartFrom (activeRange w) (rangesOf ws)) apart-from);
+        apart =
+            far-ranges (countOf m) (activeRange w) (bufferRange w) fa fb
+            (and-left (apart (activeRange w) (bufferRange w)) (apartFrom (activeRange w) (rangesOf ws)) apart-from);
       },
       (
         separate-from (countOf m) w ws fa fb rest (and-right (apart (activeRange w) (bufferRange w)) (apartFrom (activeRange w) (rangesOf ws)) apart-from)

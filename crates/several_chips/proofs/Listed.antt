@@ -60,7 +60,8 @@ state s c b = record { session = s; contended = c; banks = b }
 -- a chip that holds a state and whose ranges hold its banks
 pub state-back : (mem : List ℕ) (w : Member) (s : State) → stateOf mem w .banks ≡ s .banks → stateOf mem (memberWith w s) ≡ s
 state-back mem w s e =
-    ap₂ (λ (t : Session) (c : Bool). state t c (stateOf mem w .banks)) (session-back (s .session)) (mark-back (s .contended)) ∙ ap (state (s .session) (s .contended)) e
+    ap₂ (λ (t : Session) (c : Bool). state t c (stateOf mem w .banks)) (session-back (s .session)) (mark-back (s .contended))
+    ∙ ap (state (s .session) (s .contended)) e
 
 -- the parts of soundness
 are-bytes : (w : Member) → soundMember w ≡ true → areSession (w .session) ≡ true
@@ -70,7 +71,9 @@ are-bytes w e = and-left (areSession (w .session)) (soundSession Newer (sessionO
 mark-small : (w : Member) → soundMember w ≡ true → w .contended ≤ 1
 unfolding soundMember
 mark-small w e =
-    let marked = and-right (soundSession Newer (sessionOf (w .session))) (markGood w) (and-right (areSession (w .session)) (soundSession Newer (sessionOf (w .session)) && markGood w) e) in
+    let marked =
+    and-right (soundSession Newer (sessionOf (w .session))) (markGood w)
+    (and-right (areSession (w .session)) (soundSession Newer (sessionOf (w .session)) && markGood w) e) in
     leb-true _ _ (and-left (leb (w .contended) 1) (eqb (w .contended) 0 || midRead (sessionOf (w .session) .port)) marked)
 
 member-back : (mem : List ℕ) (w : Member) → soundMember w ≡ true → ((i : ℕ) → getD (w .session) i 0 < 256) → memberWith w (stateOf mem w) ≡ w
@@ -89,7 +92,8 @@ pub with-same : (mem : List ℕ) (ws : List Member) → allSound ws ≡ true →
 unfolding membersWith allSound
 with-same mem [] sound small = refl
 with-same mem (w ∷ ws) sound small =
-    ap₂ (λ (v : Member) (vs : List Member). v ∷ vs) (member-back mem w (and-left (soundMember w) (allSound ws) sound) (small .0)) (with-same mem ws (and-right (soundMember w) (allSound ws) sound) (small .1))
+    ap₂ (λ (v : Member) (vs : List Member). v ∷ vs) (member-back mem w (and-left (soundMember w) (allSound ws) sound) (small .0))
+    (with-same mem ws (and-right (soundMember w) (allSound ws) sound) (small .1))
 
 -- ---- sound ones
 
@@ -107,4 +111,5 @@ pub sound-set : (ws : List Member) (k : ℕ) (w : Member) → allSound ws ≡ tr
 unfolding allSound
 sound-set [] k w e h = refl
 sound-set (v ∷ ws) zero w e h = both (soundMember w) (allSound ws) h (and-right (soundMember v) (allSound ws) e)
-sound-set (v ∷ ws) (suc k) w e h = both (soundMember v) (allSound (set ws k w)) (and-left (soundMember v) (allSound ws) e) (sound-set ws k w (and-right (soundMember v) (allSound ws) e) h)
+sound-set (v ∷ ws) (suc k) w e h =
+    both (soundMember v) (allSound (set ws k w)) (and-left (soundMember v) (allSound ws) e) (sound-set ws k w (and-right (soundMember v) (allSound ws) e) h)

@@ -45,10 +45,12 @@ sets-over (x ∷ P) (y ∷ Q) l a e =
 far-sets : {n a b : ℕ} (P Q l : List ℕ) → length P ≡ n → length Q ≡ n → Far n a b → sets (sets l a P) b Q ≡ sets (sets l b Q) a P
 far-sets {n} {a} {b} P Q l ep eq far = sets-comm P Q l a b (⊎-elim (λ h. inl (omega (arith, ep, h))) (λ h. inr (omega (arith, eq, h))) far)
 
-placed-over : {m : List ℕ} {a b : ℕ} (mem : List ℕ) (k j : Banks) → Mapped m k → Mapped m j → Far (countOf m) a b → placed (placed mem a b k) a b j ≡ placed mem a b j
+placed-over : {m : List ℕ} {a b : ℕ} (mem : List ℕ) (k j : Banks) → Mapped m k → Mapped m j → Far (countOf m) a b
+    → placed (placed mem a b k) a b j ≡ placed mem a b j
 placed-over {m} {a} {b} mem k j sk sj far =
     let swap = sym (far-sets (j .active) (k .buffer) (sets mem a (k .active)) (sj .active-size) (sk .buffer-size) far) in
-    ap (λ (l : List ℕ). sets l b (j .buffer)) (swap ∙ ap (λ (l : List ℕ). sets l b (k .buffer)) (sets-over (k .active) (j .active) mem a (sk .active-size ∙ sym (sj .active-size))))
+    ap (λ (l : List ℕ). sets l b (j .buffer))
+    (swap ∙ ap (λ (l : List ℕ). sets l b (k .buffer)) (sets-over (k .active) (j .active) mem a (sk .active-size ∙ sym (sj .active-size))))
     ∙ sets-over (k .buffer) (j .buffer) (sets mem a (j .active)) b (sk .buffer-size ∙ sym (sj .buffer-size))
 
 -- two chips: each range of one is far from each of the other
@@ -58,13 +60,15 @@ pub record Separate (n a b c d : ℕ) : Type 0 where
   pub buffer-active : Far n b c
   pub buffer-buffer : Far n b d
 
-placed-comm : {m : List ℕ} {a b c d : ℕ} (mem : List ℕ) (k j : Banks) → Mapped m k → Mapped m j → Separate (countOf m) a b c d → placed (placed mem a b k) c d j ≡ placed (placed mem c d j) a b k
+placed-comm : {m : List ℕ} {a b c d : ℕ} (mem : List ℕ) (k j : Banks) → Mapped m k → Mapped m j → Separate (countOf m) a b c d
+    → placed (placed mem a b k) c d j ≡ placed (placed mem c d j) a b k
 placed-comm {m} {a} {b} {c} {d} mem k j sk sj far =
     ap (λ (l : List ℕ). sets l d (j .buffer))
     (far-sets (k .buffer) (j .active) (sets mem a (k .active)) (sk .buffer-size) (sj .active-size) (far .buffer-active)
     ∙ ap (λ (l : List ℕ). sets l b (k .buffer)) (far-sets (k .active) (j .active) mem (sk .active-size) (sj .active-size) (far .active-active)))
     ∙ far-sets (k .buffer) (j .buffer) (sets (sets mem c (j .active)) a (k .active)) (sk .buffer-size) (sj .buffer-size) (far .buffer-buffer)
-    ∙ ap (λ (l : List ℕ). sets l b (k .buffer)) (far-sets (k .active) (j .buffer) (sets mem c (j .active)) (sk .active-size) (sj .buffer-size) (far .active-buffer))
+    ∙ ap (λ (l : List ℕ). sets l b (k .buffer))
+    (far-sets (k .active) (j .buffer) (sets mem c (j .active)) (sk .active-size) (sj .buffer-size) (far .active-buffer))
 
 -- ---- the chips of a list, on a map and a memory of some size
 
@@ -149,7 +153,8 @@ module _ (m mem : List ℕ) where
       banks-are (placedAll mem (w ∷ ws) (s ∷ ss)) w (all .0)
       ∙ banks-own (within (placedAll mem ws ss) w (all .0) (length-placed-all mem ws ss)) (s .banks) (mapped .0 .active-size) (mapped .0 .buffer-size)
   own-banks (w ∷ ws) (s ∷ ss) (suc k) d e all mapped same h =
-      banks-other (placedAll mem ws ss) w (getD ws k d) (ranged-at ws k d (all .1 .1) (omega arith)) (separate-at w ws k d (all .1 .0) (omega arith)) (s .banks) (mapped .0)
+      banks-other (placedAll mem ws ss) w (getD ws k d) (ranged-at ws k d (all .1 .1) (omega arith)) (separate-at w ws k d (all .1 .0) (omega arith)) (s .banks)
+      (mapped .0)
       ∙ own-banks ws ss k d e (all .1 .1) (mapped .1) (omega (arith, same)) (omega arith)
 
   -- banks that are put in the ranges of one chip are put for that chip
@@ -162,7 +167,8 @@ module _ (m mem : List ℕ) where
   placed-for (w ∷ ws) (s ∷ ss) zero d s′ all mapped h′ same h = placed-over (placedAll mem ws ss) (s .banks) (s′ .banks) (mapped .0) h′ (all .0 .apart)
   placed-for (w ∷ ws) (s ∷ ss) (suc k) d s′ all mapped h′ same h =
       placed-comm (placedAll mem ws ss) (s .banks) (s′ .banks) (mapped .0) h′ (separate-at w ws k d (all .1 .0) (omega arith))
-      ∙ ap (λ (l : List ℕ). placed l (w .«active_start») (w .«buffer_start») (s .banks)) (placed-for ws ss k d s′ (all .1 .1) (mapped .1) h′ (omega (arith, same)) (omega arith))
+      ∙ ap (λ (l : List ℕ). placed l (w .«active_start») (w .«buffer_start») (s .banks))
+      (placed-for ws ss k d s′ (all .1 .1) (mapped .1) h′ (omega (arith, same)) (omega arith))
 
   -- what is in the ranges is put for nothing
   pub placed-all-same : (ws : List Member) → AllRanged m (length mem) ws → placedAll mem ws (statesOf mem ws) ≡ mem

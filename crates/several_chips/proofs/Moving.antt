@@ -37,19 +37,25 @@ fit-member w h =
 module _ {m mem : List ℕ} {w : Member} {x : Sample} {i : ℕ} {old : List ℕ} {at : ℕ} (ready : Moving m w mem x i old at) where
   -- both ranges have as many bytes
   same-banks : stateOf mem w .banks ≡ banksIn mem (w .«active_length») (w .«active_start») (w .«buffer_start»)
-  same-banks = ap (λ (n : ℕ). banks (part mem (w .«active_length») (w .«active_start»)) (part mem n (w .«buffer_start»))) (ready .buffer-size ∙ sym (ready .active-size))
+  same-banks =
+      ap (λ (n : ℕ). banks (part mem (w .«active_length») (w .«active_start»)) (part mem n (w .«buffer_start»))) (ready .buffer-size ∙ sym (ready .active-size))
 
   -- what taking the event of the sample asks
-  taking : TakingWithin m mem (w .«active_length») (w .«active_start») (w .«buffer_start») (sessionOf (w .session) .port .settings) (chipEvent i (stateOf mem w) x) i (contendedNow i (stateOf mem w) x) old at
+  taking : TakingWithin m mem (w .«active_length») (w .«active_start») (w .«buffer_start») (sessionOf (w .session) .port .settings)
+      (chipEvent i (stateOf mem w) x) i (contendedNow i (stateOf mem w) x) old at
   unfolding recordAt
   taking = record { within = rw (ready .active-size) (ready .within); room = rw same-banks at (ready .room) }
 
   -- the chip after the event is taken
   moved : {memory new : List ℕ} {took : EventOutcome}
-      → TakenWithin m mem (w .«active_length») (w .«active_start») (w .«buffer_start») (sessionOf (w .session) .port .settings) (sessionOf (w .session) .armed) (chipEvent i (stateOf mem w) x) i (contendedNow i (stateOf mem w) x) old at memory new took
+      → TakenWithin m mem (w .«active_length») (w .«active_start») (w .«buffer_start») (sessionOf (w .session) .port .settings) (sessionOf (w .session) .armed)
+      (chipEvent i (stateOf mem w) x) i (contendedNow i (stateOf mem w) x) old at memory new took
       → HasMoved m w mem x i old at
       (record {
-        member = memberWith w (state (record { port = portAfter i (stateOf mem w) x; armed = took .armed }) (midRead (portAfter i (stateOf mem w) x) && contendedNow i (stateOf mem w) x));
+        member =
+            memberWith w
+            (state (record { port = portAfter i (stateOf mem w) x; armed = took .armed })
+            (midRead (portAfter i (stateOf mem w) x) && contendedNow i (stateOf mem w) x));
         at = took .at;
       }) memory new
   unfolding stateAfter recordAt
@@ -70,13 +76,16 @@ module _ {m mem : List ℕ} {w : Member} {x : Sample} {i : ℕ} {old : List ℕ}
       }
 
   module _ {s : Session} {seen : ℕ} {edge low : Bool} {e : Event} (es : s ≡ sessionOf (w .session)) (ex : seen ≡ seenBy i x)
-      (ed : edge ≡ (not (s .port .csb) && not (csbOf seen) && not (s .port .sclk) && sclkOf seen)) (el : low ≡ otherLow i x) (ee : e ≡ eventOf Newer (s .port) seen) where
+      (ed : edge ≡ (not (s .port .csb) && not (csbOf seen) && not (s .port .sclk) && sclkOf seen)) (el : low ≡ otherLow i x)
+      (ee : e ≡ eventOf Newer (s .port) seen) where
     -- the same by what the code finds, each equal to its definition
-    pub taking-event : TakingWithin m mem (w .«active_length») (w .«active_start») (w .«buffer_start») (s .port .settings) e i (eqb (w .contended) 1 || (edge && low)) old at
+    pub taking-event : TakingWithin m mem (w .«active_length») (w .«active_start») (w .«buffer_start») (s .port .settings) e i
+        (eqb (w .contended) 1 || (edge && low)) old at
     taking-event = rw (ee, ed, el, ex, es) taking
 
     pub moved-by-event : {after : Port} {memory new : List ℕ} {took : EventOutcome} {mid : Bool} {r : Member} → after ≡ stepOf Newer (s .port) seen
-        → TakenWithin m mem (w .«active_length») (w .«active_start») (w .«buffer_start») (s .port .settings) (s .armed) e i (eqb (w .contended) 1 || (edge && low)) old at memory new took
+        → TakenWithin m mem (w .«active_length») (w .«active_start») (w .«buffer_start») (s .port .settings) (s .armed) e i
+        (eqb (w .contended) 1 || (edge && low)) old at memory new took
         → mid ≡ midRead after → r ≡ memberWith w (state (record { port = after; armed = took .armed }) (mid && (eqb (w .contended) 1 || (edge && low))))
         → HasMoved m w mem x i old at (record { member = r; at = took .at }) memory new
     moved-by-event ea taken em er = rw (er, em, ea, ed, el, ex, es) (moved (rw (ee, ed, el, ex, es) at taken))

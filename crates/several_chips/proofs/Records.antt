@@ -30,7 +30,8 @@ length-at : (m : List ℕ) (i : ℕ) (ss : List State) (x : Sample) → length (
 unfolding recordsAt joinedRecords numberAt
 length-at m i [] x = refl
 length-at m i (s ∷ ss) x =
-    ap length (bytes-append (recordAt m i s x) (recordsAt m (i + 1) ss x)) ∙ length-append (joinedRecords (recordAt m i s x)) (joinedRecords (recordsAt m (i + 1) ss x))
+    ap length (bytes-append (recordAt m i s x) (recordsAt m (i + 1) ss x))
+    ∙ length-append (joinedRecords (recordAt m i s x)) (joinedRecords (recordsAt m (i + 1) ss x))
     ∙ ap₂ (λ (j k : ℕ). j + k) (record-sized m i s x) (length-at m (i + 1) ss x)
     ∙ (let h : 8 * recordsIn (chipEvent i s x) + 8 * numberAt (i + 1) ss x ≡ 8 * (recordsIn (chipEvent i s x) + numberAt (i + 1) ss x) = omega arith in h)
 
@@ -52,7 +53,8 @@ count-sample m i (s ∷ ss) x xs =
     let rest = count-sample m (i + 1) ss x xs in
     let here = recordsIn (chipEvent i s x) in
     let later = recordCount Newer (stateAfter m i s x .session .port) (allSeenBy i xs) in
-    let h : here + later + countStates (i + 1) ss (x ∷ xs) ≡ here + numberAt (i + 1) ss x + (later + countStates (i + 1) (allAfter m (i + 1) ss x) xs) = omega (arith, rest) in
+    let h : here + later + countStates (i + 1) ss (x ∷ xs) ≡ here + numberAt (i + 1) ss x + (later + countStates (i + 1) (allAfter m (i + 1) ss x) xs) =
+    omega (arith, rest) in
     h
 
 length-all : (m : List ℕ) (ss : List State) (xs : List Sample) → length (joinedRecords (recordsAll m ss xs)) ≡ severalRecordSize * countStates 0 ss xs
@@ -70,5 +72,6 @@ unfolding countStates countFrom
 count-members mem i [] xs = refl
 count-members mem i (w ∷ ws) xs = ap (λ (k : ℕ). recordCount Newer (sessionOf (w .session) .port) (allSeenBy i xs) + k) (count-members mem (i + 1) ws xs)
 
-pub records-length : (m mem : List ℕ) (ws : List Member) (xs : List Sample) → length (joinedRecords (recordsAll m (statesOf mem ws) xs)) ≡ severalRecordSize * countFrom 0 ws xs
+pub records-length : (m mem : List ℕ) (ws : List Member) (xs : List Sample)
+    → length (joinedRecords (recordsAll m (statesOf mem ws) xs)) ≡ severalRecordSize * countFrom 0 ws xs
 records-length m mem ws xs = length-all m (statesOf mem ws) xs ∙ ap (λ (k : ℕ). 8 * k) (count-members mem 0 ws xs)

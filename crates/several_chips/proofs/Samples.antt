@@ -32,6 +32,7 @@ pub good-at : (chips : ℕ) (xs : List Sample) (j : ℕ) (d : Sample) → allGoo
 unfolding allGood
 good-at chips [] j d e h = absurd (omega arith)
 good-at chips (x ∷ xs) zero d e h =
-    let lines = and-right (leb (2 ^ 8 - 2 ^ chips) (x .selects)) (leb (x .lines) 15 && not (bitAt (x .lines) 0)) (and-left (sampleGood chips x) (allGood chips xs) e) in
+    let lines =
+    and-right (leb (2 ^ 8 - 2 ^ chips) (x .selects)) (leb (x .lines) 15 && not (bitAt (x .lines) 0)) (and-left (sampleGood chips x) (allGood chips xs) e) in
     leb-true _ _ (and-left (leb (x .lines) 15) (not (bitAt (x .lines) 0)) lines)
 good-at chips (x ∷ xs) (suc j) d e h = good-at chips xs j d (and-right (sampleGood chips x) (allGood chips xs) e) (omega arith)

@@ -64,7 +64,8 @@ mark-stays (suc zero) true low h = refl
 mark-stays (suc zero) false low h = absurd (false≢true h)
 mark-stays (suc (suc n)) mid low h = absurd (omega (arith, leb-true (suc (suc n)) 1 (and-left _ _ h)))
 
-module _ (m mem : List ℕ) (i : ℕ) (w : Member) (x : Sample) (h : onlyLevels (sessionOf (w .session) .port .csb) (sessionOf (w .session) .port .sclk) (seenBy i x) ≡ true) where
+module _ (m mem : List ℕ) (i : ℕ) (w : Member) (x : Sample)
+    (h : onlyLevels (sessionOf (w .session) .port .csb) (sessionOf (w .session) .port .sclk) (seenBy i x) ≡ true) where
   -- the chip, its port, and what it sees
   abbrev s : State
   s = stateOf mem w

@@ -32,7 +32,8 @@ module _ {m : List ℕ} {w : Member} {mem bytes old : List ℕ} {t : Turn} (read
 
   -- the quick way: one byte of the chip
   pub stepped-still : {seen : ℕ} {only sclk : Bool} {r : Member} {next : Turn} → ((j : ℕ) → getD (w .session) j 0 < 256)
-      → only ≡ onlyLevels (eqb (getD (w .session) 1 0) 1) (eqb (getD (w .session) 2 0) 1) seen → only ≡ true → seen ≡ seenBy (t .chip) (sampleAt bytes (t .sample))
+      → only ≡ onlyLevels (eqb (getD (w .session) 1 0) 1) (eqb (getD (w .session) 2 0) 1) seen → only ≡ true
+      → seen ≡ seenBy (t .chip) (sampleAt bytes (t .sample))
       → sclk ≡ sclkOf seen → r ≡ withClock w sclk → next ≡ nextTurn chips t (t .at)
       → HasStepped m w chips mem bytes old t (record { member = r; turn = next }) mem old
   unfolding sessionOf joinedRecords

@@ -37,7 +37,8 @@ read-size i true a due line = refl
 read-size i false a due line = refl
 
 -- how many bytes the record of an event has
-pub event-size : (m : List ℕ) (b : Banks) (t : Settings) (e : Event) (i : ℕ) (contended : Bool) → length (eventBytes m b t e i contended) ≡ severalRecordSize * recordsIn e
+pub event-size : (m : List ℕ) (b : Banks) (t : Settings) (e : Event) (i : ℕ) (contended : Bool)
+    → length (eventBytes m b t e i contended) ≡ severalRecordSize * recordsIn e
 unfolding joinedRecords recordOf
 event-size m b t Nothing i contended = refl
 event-size m b t (Whole true a v) i contended =
@@ -102,12 +103,16 @@ module _ {m mem : List ℕ} {n a b : ℕ} {t : Settings} {k : Bool} {e : Event} 
       })
 
   -- the frame ended, and broke a piece off
-  pub took-abort : {address bits : ℕ} {d : Bool} {memory new : List ℕ} → e ≡ Aborted address bits d → memory ≡ placed mem a b (riseBanks Newer m k (banksIn mem n a b))
-      → new ≡ sets old at (numbered i false (abortRecord address bits d)) → TakenWithin m mem n a b t k e i contended old at memory new (took (at + severalRecordSize) false)
+  pub took-abort : {address bits : ℕ} {d : Bool} {memory new : List ℕ} {r : EventOutcome} → e ≡ Aborted address bits d
+      → new ≡ sets old at (numbered i false (abortRecord address bits d))
+      → (memory ≡ placed mem a b (riseBanks Newer m k (banksIn mem n a b))) × (r ≡ took (at + severalRecordSize) false)
+      → TakenWithin m mem n a b t k e i contended old at memory new r
   unfolding banksAfter armedAfter recordOf joinedRecords
-  took-abort ee ea en = rw ee (record { memory-after = ea; armed-after = refl; records-after = en; next-place = refl })
+  took-abort ee en (ea, er) = rw (ee, er) (record { memory-after = ea; armed-after = refl; records-after = en; next-place = refl })
 
   -- the frame ended
-  pub took-end : {memory : List ℕ} → e ≡ Ended → memory ≡ placed mem a b (riseBanks Newer m k (banksIn mem n a b)) → TakenWithin m mem n a b t k e i contended old at memory old (took at false)
+  pub took-end : {memory : List ℕ} {r : EventOutcome} → e ≡ Ended
+      → (memory ≡ placed mem a b (riseBanks Newer m k (banksIn mem n a b))) × (r ≡ took at false)
+      → TakenWithin m mem n a b t k e i contended old at memory old r
   unfolding banksAfter armedAfter recordOf joinedRecords
-  took-end ee ea = rw ee (record { memory-after = ea; armed-after = refl; records-after = refl; next-place = sym (add-zero at) })
+  took-end ee (ea, er) = rw (ee, er) (record { memory-after = ea; armed-after = refl; records-after = refl; next-place = sym (add-zero at) })

@@ -1,4 +1,9 @@
 // What an event of one chip does to its ranges of the bank memory, and the record that it gives.
+ghost use mathlib.Core.Path.{_≡_};
+ghost use mathlib.Core.Bool.{false};
+ghost use Rattle.base_chip.specs.declared.Chip.the-variants.{Newer};
+ghost use Rattle.reg_write.specs.Rise.{riseBanks};
+ghost use Rattle.reg_ranges.specs.Ranges.{banksIn, placed, RangesWithin};
 ghost use Rattle.several_chips.specs.Step.{TakingWithin, TakenWithin};
 use crate::RECORD;
 use crate::numbered::put_abort;
@@ -12,6 +17,29 @@ use reg_ranges::due_within;
 use reg_ranges::end_within;
 use reg_ranges::write_within;
 use reg_write::armed_on;
+
+// The end of a frame: what the rise moves, and a session that is not armed. The next place is the given one.
+fn take_end_within(
+    map: &[u8],
+    memory: &mut [u8],
+    n: usize,
+    active: usize,
+    buffer: usize,
+    armed: bool,
+    at: usize,
+) -> EventOutcome
+    requires { ⌜ RangesWithin (now map) (now memory) n active buffer ⌝ }
+    ensures { λ r.
+        ⌜ (now (memory .exit)
+        ≡ placed (now (memory .entry)) active buffer (riseBanks Newer (now (map .entry)) armed (banksIn (now (memory .entry)) n active buffer)))
+        × (r ≡ record { at = at; armed = false }) ⌝ }
+{
+    end_within(map, memory, n, active, buffer, armed);
+    EventOutcome {
+        at: at,
+        armed: false,
+    }
+}
 
 // Does what an event does to the two ranges of a chip, and puts its record at a place.
 pub(crate) fn take_within(
@@ -64,19 +92,9 @@ pub(crate) fn take_within(
             bits,
             data,
         } => {
-            end_within(map, memory, n, active, buffer, armed);
             put_abort(records, at, chip, address, bits, data);
-            EventOutcome {
-                at: at + RECORD,
-                armed: false,
-            }
+            take_end_within(map, memory, n, active, buffer, armed, at + RECORD)
         }
-        Event::Ended => {
-            end_within(map, memory, n, active, buffer, armed);
-            EventOutcome {
-                at: at,
-                armed: false,
-            }
-        }
+        Event::Ended => take_end_within(map, memory, n, active, buffer, armed, at),
     }
 }

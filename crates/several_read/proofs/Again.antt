@@ -1,4 +1,5 @@
--- A lent list is lent again, for a lifetime of one call, and comes back with what the call left in it: `Denote/Lend.antt`'s rules for one reference, of a slice of any element type. Nothing here is about this crate.
+-- A lent list is lent again, for a lifetime of one call, and comes back with what the call left in it: `Denote/Lend.antt`'s rules for one
+-- reference, of a slice of any element type. Nothing here is about this crate.
 --     LentAgain        what is kept in the meantime: the lender's end of the new loan, and the old borrow, open, with both halves of its ghost variable
 --     lends-again      the list and its lifetime's token give the list under a new name at the call's lifetime, and what is kept
 --     comes-back       once the call's lifetime is over, what is kept and the last value under the new name give the list and the token back
@@ -39,7 +40,9 @@ module _ (R : RattleType) (κ κ′ : Lft) (q : Share) (x : RefT (List (R .Denot
   at-list δ ys = record { ptr = x .ptr; name = δ; now = ys }
 
   abbrev pub LentAgain : GName → List (R .Denot) → Fml
-  LentAgain γ₁ ys = fsep (flent κ′ (Held R (length ys) b o γ₁)) (fsep (fobor κ q (Held R (length ys) b o γ)) (fsep (fobs γ (codedHoleys R .code (heres R ys))) (fauth γ (codedHoleys R .code (heres R ys)))))
+  LentAgain γ₁ ys =
+      fsep (flent κ′ (Held R (length ys) b o γ₁))
+      (fsep (fobor κ q (Held R (length ys) b o γ)) (fsep (fobs γ (codedHoleys R .code (heres R ys))) (fauth γ (codedHoleys R .code (heres R ys)))))
 
   module _ {M : Type 1} (𝓤 : URA M) (H : Heap 𝓤) (A : Atoms 𝓤) (W : Given 𝓤 H A) (ℓ ℓ′ : Lifetime) (n : ℕ) (ys : List (R .Denot)) (e : n ≡ length ys) where
     abbrev vals : ℕ → List Val
@@ -48,18 +51,22 @@ module _ (R : RattleType) (κ κ′ : Lft) (q : Share) (x : RefT (List (R .Denot
     pub lends-again : ent 𝓤 (sep 𝓤 (sem 𝓤 H A (MutSlice ℓ κ R .own (at-list γ ys) (vals n))) (A .lft κ q))
         (H .⇛ (ex 𝓤 (λ (γ₁ : GName). sep 𝓤 (sem 𝓤 H A (MutSlice ℓ′ κ′ R .own (at-list γ₁ ys) (vals n))) (sem 𝓤 H A (LentAgain γ₁ ys)))))
     lends-again =
-        qed W (‵ (MutSlice ℓ κ R .own (at-list γ ys) (vals n)) ∷ ‵ (flft κ q) ∷ []) ∵ updating ! $ fsplit ! $ pureL ! (at-slice R (at-list γ ys) (vals n)) (λ p. fsplit ! $ opens-slice ! tt R ys b o $
+        qed W (‵ (MutSlice ℓ κ R .own (at-list γ ys) (vals n)) ∷ ‵ (flft κ q) ∷ []) ∵ updating ! $ fsplit ! $
+        pureL ! (at-slice R (at-list γ ys) (vals n)) (λ p. fsplit ! $ opens-slice ! tt R ys b o $
         use1 W (‵ (cells (mem R) ys b o)) (whole-in 𝓤 H A W R ys b o) $
-        use1 W (later (some (λ (γ₁ : GName). ‵ (MutSlice ℓ′ κ′ R .own (at-list γ₁ ys) (vals (length ys))) ⊛ ‵ (flent κ′ (Held R (length ys) b o γ₁))))) (lends-slice 𝓤 H A W R ℓ′ κ′ ys b o (p .1)) $ await ! tt $ pick ! (λ γ₁. split ! $
+        use1 W (later (some (λ (γ₁ : GName). ‵ (MutSlice ℓ′ κ′ R .own (at-list γ₁ ys) (vals (length ys))) ⊛ ‵ (flent κ′ (Held R (length ys) b o γ₁)))))
+        (lends-slice 𝓤 H A W R ℓ′ κ′ ys b o (p .1)) $ await ! tt $ pick ! (λ γ₁. split ! $
         rewrite ! 0 (λ (k : ℕ). ‵ (MutSlice ℓ′ κ′ R .own (at-list γ₁ ys) (vals k))) (sym e) refl $
         -- [the new slice; the lender's part at κ′; the open borrow at κ; obs γ; auth γ]
         at-once ! $ show ! (λ (γ′ : GName). sep 𝓤 (sem 𝓤 H A (MutSlice ℓ′ κ′ R .own (at-list γ′ ys) (vals n))) (sem 𝓤 H A (LentAgain γ′ ys))) γ₁ $ frame ! $
         move ! (2 ∷ 3 ∷ []) $ fjoin ! $ move ! (2 ∷ 0 ∷ []) $ fjoin ! $ move ! (1 ∷ 0 ∷ []) $ fjoin ! $ done !))
 
     pub comes-back : (γ₁ : GName) (zs : List (R .Denot)) → Room R n → length zs ≡ length ys
-        → ent 𝓤 (sep 𝓤 (A .dead κ′) (sep 𝓤 (sem 𝓤 H A (LentAgain γ₁ ys)) (sem 𝓤 H A (finally R γ₁ zs)))) (H .⇛ (sep 𝓤 (sem 𝓤 H A (MutSlice ℓ κ R .own (at-list γ zs) (vals n))) (A .lft κ q)))
+        → ent 𝓤 (sep 𝓤 (A .dead κ′) (sep 𝓤 (sem 𝓤 H A (LentAgain γ₁ ys)) (sem 𝓤 H A (finally R γ₁ zs))))
+        (H .⇛ (sep 𝓤 (sem 𝓤 H A (MutSlice ℓ κ R .own (at-list γ zs) (vals n))) (A .lft κ q)))
     comes-back γ₁ zs room same =
         qed W (‵ (fdead κ′) ∷ ‵ (LentAgain γ₁ ys) ∷ ‵ (finally R γ₁ zs) ∷ []) ∵ updating ! $ move ! (1 ∷ []) $ fsplit ! $ move ! (2 ∷ 0 ∷ 3 ∷ []) $
-        use3 W (later (‵ (Arr (mem R) (length ys) .lies zs b o))) (slice-back 𝓤 H A W R κ′ γ₁ zs (length ys) b o) $ await ! tt $ fsplit ! $ drop ! $ use1 W (‵ (row R fullShare zs b o)) (whole-out 𝓤 H A W R zs b o) $
+        use3 W (later (‵ (Arr (mem R) (length ys) .lies zs b o))) (slice-back 𝓤 H A W R κ′ γ₁ zs (length ys) b o) $ await ! tt $ fsplit ! $ drop ! $
+        use1 W (‵ (row R fullShare zs b o)) (whole-out 𝓤 H A W R zs b o) $
         move ! (1 ∷ []) $ fsplit ! $ move ! (1 ∷ []) $ fsplit ! $ move ! (3 ∷ 2 ∷ 0 ∷ 1 ∷ []) $ closes-slice ! tt R ys zs same b o $ at-once ! $
         fjoin ! $ pureI ! (at-slice R (at-list γ zs) (vals n)) (tt, (tt, tt)) (ap vals (e ∙ sym same), subst (Room R) (e ∙ sym same) room) $ fjoin ! $ done !

@@ -45,7 +45,8 @@ in-a-call number sample bytes h = go (eqb number 0) refl h
 
 -- the next turn is nearer to the end
 falls : (end chips : ℕ) (t : Turn) (size : ℕ) → t .sample < end → t .chip < 8 → turnsLeft end (turnAfter chips t size) < turnsLeft end t
-falls end chips t size less few = each (λ (t′ : Turn). turnsLeft end t′ < turnsLeft end t) (ltb (t .chip + 1) chips) (λ e. omega (arith, less, few)) (λ e. omega (arith, less, few))
+falls end chips t size less few =
+    each (λ (t′ : Turn). turnsLeft end t′ < turnsLeft end t) (ltb (t .chip + 1) chips) (λ e. omega (arith, less, few)) (λ e. omega (arith, less, few))
 
 module _ (m : List ℕ) (ws : List Member) (mem bytes old : List ℕ) (number : ℕ) (known : number ≡ severalNumber m ws (length mem) bytes (length old)) where
   abbrev At : Turn → List Member → List ℕ → List ℕ → Type 0
@@ -68,7 +69,8 @@ module _ (m : List ℕ) (ws : List Member) (mem bytes old : List ℕ) (number : 
   unfolding severalOf
   ended {t} {cur} {memory} {new} r over = go (eqb number 0) refl over
     where
-      go : (b : Bool) → eqb number 0 ≡ b → cond b (length bytes / 2) 0 ≤ t .sample → severalOutcome number cur memory (t .at / severalRecordSize) new ≡ severalOf m ws mem bytes old
+      go : (b : Bool) → eqb number 0 ≡ b → cond b (length bytes / 2) 0 ≤ t .sample
+          → severalOutcome number cur memory (t .at / severalRecordSize) new ≡ severalOf m ws mem bytes old
       go true e h =
           let z = eqb-true number 0 e in
           ap (λ (k : ℕ). severalOutcome k cur memory (t .at / severalRecordSize) new) z
@@ -90,18 +92,25 @@ module _ (m : List ℕ) (ws : List Member) (mem bytes old : List ℕ) (number : 
     pub asked : (d : Member) → Stepping m (getD cur (t .chip) d) memory bytes new t
     asked d = going-asked m ws mem bytes old (ok (call .0)) (r .going (call .0)) (call .1) d
 
-    module _ (d : Member) {after : Stepped} {memory′ new′ : List ℕ} (h : HasStepped m (getD cur (t .chip) d) (length cur) memory bytes new t after memory′ new′) where
+    module _ (d : Member) {after : Stepped} {memory′ new′ : List ℕ}
+        (h : HasStepped m (getD cur (t .chip) d) (length cur) memory bytes new t after memory′ new′) where
       abbrev w : Member
       w = getD cur (t .chip) d
 
       pub stepped : At (after .turn) (set cur (t .chip) (after .member)) memory′ new′
       stepped = record {
         same = length-set cur (t .chip) (after .member) ∙ r .same;
-        same-memory = ap length (h .memory-after) ∙ length-placed memory (w .«active_start») (w .«buffer_start») (stateAfterTurn m w memory bytes t .banks) ∙ r .same-memory;
+        same-memory =
+            ap length (h .memory-after) ∙ length-placed memory (w .«active_start») (w .«buffer_start») (stateAfterTurn m w memory bytes t .banks)
+            ∙ r .same-memory;
         same-records = ap length (h .records-after) ∙ length-sets new (t .at) (turnRecord m w memory bytes t) ∙ r .same-records;
-        going = λ z. going-stepped m ws mem bytes old (ok z) (r .going z) (call .1) d (λ mem′ u y. state-sound m mem′ u (t .chip) y) (λ k y. banks-sized m (t .chip) k y) h;
+        going =
+            λ z. going-stepped m ws mem bytes old (ok z) (r .going z) (call .1) d (λ mem′ u y. state-sound m mem′ u (t .chip) y)
+            (λ k y. banks-sized m (t .chip) k y) h;
         refused = λ z. absurd (z (call .0));
       }
 
       pub nearer : turnsLeft (endOf number bytes) (after .turn) < turnsLeft (endOf number bytes) t
-      nearer = subst (λ (t′ : Turn). turnsLeft (endOf number bytes) t′ < turnsLeft (endOf number bytes) t) (sym (h .turn-after)) (falls (endOf number bytes) (length cur) t (length (turnRecord m w memory bytes t)) less (asked d .number))
+      nearer =
+          subst (λ (t′ : Turn). turnsLeft (endOf number bytes) t′ < turnsLeft (endOf number bytes) t) (sym (h .turn-after))
+          (falls (endOf number bytes) (length cur) t (length (turnRecord m w memory bytes t)) less (asked d .number))

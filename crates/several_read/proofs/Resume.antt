@@ -78,7 +78,8 @@ module _ (m : List ℕ) (i : ℕ) (ss : List State) (x : Sample) (d : State) (h 
     unfolding resumed
     resumed-next =
         ap₂ (λ (a : List (List ℕ)) (l : List State). a ++ recordsAll m l xs) records-on states-on
-        ∙ append-assoc (recordAt m i (getD ss i d) x) (recordsAt m (i + 1) (drop (i + 1) ss′) x) (recordsAll m (take (i + 1) ss′ ++ allAfter m (i + 1) (drop (i + 1) ss′) x) xs)
+        ∙ append-assoc (recordAt m i (getD ss i d) x) (recordsAt m (i + 1) (drop (i + 1) ss′) x)
+        (recordsAll m (take (i + 1) ss′ ++ allAfter m (i + 1) (drop (i + 1) ss′) x) xs)
 
     pub resume-last : length ss ≤ i + 1 → resume m i ss (x ∷ xs) ≡ resume m 0 ss′ xs
     unfolding resume

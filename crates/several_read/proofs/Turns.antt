@@ -95,9 +95,14 @@ module _ (m : List ℕ) (ws : List Member) (mem bytes old : List ℕ) (ok : Acce
       let all = sym (append-nil (g .done)) ∙ sym (ap (λ (l : List Sample). g .done ++ resumed m (t .chip) (g .states) l) none) ∙ g .records-left in
       let size = g .at-is ∙ ap (λ (l : List (List ℕ)). length (joinedRecords l)) all ∙ records-length m mem ws xs in
       let count : t .at / 8 ≡ countFrom 0 ws xs = omega (arith, size) in
-      let put = g .records-are ∙ ap (λ (l : List (List ℕ)). sets old 0 (joinedRecords l)) all ∙ sets-filled (joinedRecords (recordsAll m (statesOf mem ws) xs)) old all-fit in
-      ap₂ (λ (vs : List Member) (l : List ℕ). severalOutcome 0 vs l (t .at / severalRecordSize) new) (g .members-are ∙ ap (membersWith ws) run) (g .memory-is ∙ ap (placedAll mem ws) run)
-      ∙ ap₂ (λ (k : ℕ) (l : List ℕ). severalOutcome 0 (membersWith ws (runAll m (statesOf mem ws) xs)) (placedAll mem ws (runAll m (statesOf mem ws) xs)) k l) count put
+      let put =
+      g .records-are ∙ ap (λ (l : List (List ℕ)). sets old 0 (joinedRecords l)) all
+      ∙ sets-filled (joinedRecords (recordsAll m (statesOf mem ws) xs)) old all-fit in
+      ap₂ (λ (vs : List Member) (l : List ℕ). severalOutcome 0 vs l (t .at / severalRecordSize) new) (g .members-are ∙ ap (membersWith ws) run)
+      (g .memory-is ∙ ap (placedAll mem ws) run)
+      ∙ ap₂
+      (λ (k : ℕ) (l : List ℕ). severalOutcome 0 (membersWith ws (runAll m (statesOf mem ws) xs))
+      (placedAll mem ws (runAll m (statesOf mem ws) xs)) k l) count put
 
   -- ---- a turn that is there
   module _ {t : Turn} {cur : List Member} {memory new : List ℕ} (g : At t cur memory new) (less : t .sample < length bytes / 2) (d : Member) where
@@ -126,7 +131,8 @@ module _ (m : List ℕ) (ws : List Member) (mem bytes old : List ℕ) (ok : Acce
     pub holds : stateOf memory v ≡ s
     holds =
         state-back memory w s
-        (ap (λ (l : List ℕ). stateOf l w .banks) (g .memory-is) ∙ own-banks m mem ws (g .states) i d (nobody mem d) (ok .ranged) (g .mapped) (g .many) (g .chip-in))
+        (ap (λ (l : List ℕ). stateOf l w .banks) (g .memory-is)
+        ∙ own-banks m mem ws (g .states) i d (nobody mem d) (ok .ranged) (g .mapped) (g .many) (g .chip-in))
 
     memory-size : length memory ≡ length mem
     memory-size = ap length (g .memory-is) ∙ length-placed-all mem ws (g .states)
@@ -141,7 +147,9 @@ module _ (m : List ℕ) (ws : List Member) (mem bytes old : List ℕ) (ok : Acce
 
     good-lines : x .lines ≤ 15
     good-lines =
-        let good = and-right (leb (length bytes) (2 * 65536)) (allGood (length ws) xs) (and-right (eqb (length bytes % 2) 0) (leb (length bytes) (2 * 65536) && allGood (length ws) xs) (ok .samples)) in
+        let good =
+        and-right (leb (length bytes) (2 * 65536)) (allGood (length ws) xs)
+        (and-right (eqb (length bytes % 2) 0) (leb (length bytes) (2 * 65536) && allGood (length ws) xs) (ok .samples)) in
         subst (λ (y : Sample). y .lines ≤ 15) (sample-here bytes (t .sample) x (omega (arith, less))) (good-at (length ws) xs (t .sample) x good in-samples)
 
     abbrev rb : List ℕ
@@ -191,9 +199,15 @@ module _ (m : List ℕ) (ws : List Member) (mem bytes old : List ℕ) (ok : Acce
     record-fits =
         let next = next-is (length ws) refl in
         let rest = resumed m (turnAfter (length ws) t (length rb) .chip) states′ (drop (turnAfter (length ws) t (length rb) .sample) xs) in
-        let all = sym (g .records-left) ∙ ap (λ (l : List Sample). g .done ++ resumed m i (g .states) l) next-sample ∙ ap (λ (l : List (List ℕ)). g .done ++ l) (next .records-on) in
-        let bytes-all = ap joinedRecords all ∙ bytes-append (g .done) (recordAt m i s x ++ rest) ∙ ap (λ (l : List ℕ). joinedRecords (g .done) ++ l) (bytes-append (recordAt m i s x) rest) in
-        let size = ap length bytes-all ∙ length-append (joinedRecords (g .done)) (rb ++ joinedRecords rest) ∙ ap (λ (k : ℕ). length (joinedRecords (g .done)) + k) (length-append rb (joinedRecords rest)) in
+        let all =
+        sym (g .records-left) ∙ ap (λ (l : List Sample). g .done ++ resumed m i (g .states) l) next-sample
+        ∙ ap (λ (l : List (List ℕ)). g .done ++ l) (next .records-on) in
+        let bytes-all =
+        ap joinedRecords all ∙ bytes-append (g .done) (recordAt m i s x ++ rest)
+        ∙ ap (λ (l : List ℕ). joinedRecords (g .done) ++ l) (bytes-append (recordAt m i s x) rest) in
+        let size =
+        ap length bytes-all ∙ length-append (joinedRecords (g .done)) (rb ++ joinedRecords rest)
+        ∙ ap (λ (k : ℕ). length (joinedRecords (g .done)) + k) (length-append rb (joinedRecords rest)) in
         omega (arith, g .at-is, size, all-fit)
 
     pub going-asked : Stepping m (getD cur i d) memory bytes new t
@@ -202,7 +216,9 @@ module _ (m : List ℕ) (ws : List Member) (mem bytes old : List ℕ) (ok : Acce
         let same = ap (λ (k : State). length (joinedRecords (recordAt m i k x))) holds in
         let there = ap length (g .records-are) ∙ length-sets old 0 (joinedRecords (g .done)) in
         subst (λ (u : Member). Stepping m u memory bytes new t) (sym here) (record {
-          sound = subst (λ (u : Member). soundMember u ≡ true) here (sound-at cur i d (g .sound) (omega (arith, ap length (g .members-are), length-with ws (g .states) (g .many), g .chip-in)));
+          sound =
+              subst (λ (u : Member). soundMember u ≡ true) here
+              (sound-at cur i d (g .sound) (omega (arith, ap length (g .members-are), length-with ws (g .states) (g .many), g .chip-in)));
           active-size = fits .active-length;
           buffer-size = fits .buffer-length;
           within = within m mem memory w fits memory-size;
@@ -216,7 +232,8 @@ module _ (m : List ℕ) (ws : List Member) (mem bytes old : List ℕ) (ok : Acce
         (state-sound : (mem′ : List ℕ) (u : Member) (y : Sample) → soundMember u ≡ true → soundMember (memberWith u (stateAfter m i (stateOf mem′ u) y)) ≡ true)
         (banks-mapped : (k : State) (y : Sample) → Mapped m (k .banks) → Mapped m (stateAfter m i k y .banks)) where
       mapped-here : Mapped m (s .banks)
-      mapped-here = subst (Mapped m) (ap (λ (k : State). k .banks) holds) (mapped-held m mem memory w (ranged-at m mem ws i d (ok .ranged) (g .chip-in)) memory-size)
+      mapped-here =
+          subst (Mapped m) (ap (λ (k : State). k .banks) holds) (mapped-held m mem memory w (ranged-at m mem ws i d (ok .ranged) (g .chip-in)) memory-size)
 
       pub going-stepped : {r : Stepped} {memory′ new′ : List ℕ} → HasStepped m (getD cur i d) (length cur) memory bytes new t r memory′ new′
           → At (r .turn) (set cur i (r .member)) memory′ new′
@@ -240,7 +257,8 @@ module _ (m : List ℕ) (ws : List Member) (mem bytes old : List ℕ) (ok : Acce
                 h .memory-after
                 ∙ ap₂ (λ (l : List ℕ) (k : State). placed l (w .«active_start») (w .«buffer_start») (k .banks)) (g .memory-is) after
                 ∙ placed-for m mem ws (g .states) i d s′ (ok .ranged) (g .mapped) mapped′ (g .many) (g .chip-in);
-            sound = sound-set cur i (r .member) (g .sound) (subst (λ (u : Member). soundMember u ≡ true) (sym (h .member-after)) (state-sound memory v x sound-v));
+            sound =
+                sound-set cur i (r .member) (g .sound) (subst (λ (u : Member). soundMember u ≡ true) (sym (h .member-after)) (state-sound memory v x sound-v));
             mapped = mapped-set m (g .states) i s′ (g .mapped) mapped′;
             records-are =
                 h .records-after ∙ ap₂ (λ (l k : List ℕ). sets l (t .at) k) (g .records-are) bytes-are
@@ -251,7 +269,8 @@ module _ (m : List ℕ) (ws : List Member) (mem bytes old : List ℕ) (ok : Acce
                 ∙ sym (ap length (bytes-append (g .done) (recordAt m i s x)) ∙ length-append (joinedRecords (g .done)) rb);
             run-is = sym (next .run-on) ∙ sym (ap (resume m i (g .states)) next-sample) ∙ g .run-is;
             records-left =
-                append-assoc (g .done) (recordAt m i s x) (resumed m (turnAfter (length cur) t (length rb) .chip) states′ (drop (turnAfter (length cur) t (length rb) .sample) xs))
+                append-assoc (g .done) (recordAt m i s x)
+                (resumed m (turnAfter (length cur) t (length rb) .chip) states′ (drop (turnAfter (length cur) t (length rb) .sample) xs))
                 ∙ ap (λ (l : List (List ℕ)). g .done ++ l) (sym (next .records-on))
                 ∙ sym (ap (λ (l : List Sample). g .done ++ resumed m i (g .states) l) next-sample) ∙ g .records-left;
           })

@@ -55,7 +55,8 @@ count-bound i (w ∷ ws) xs = rw (suc-mul (length ws) ((length xs + 2) / 3)) (om
 -- the next sample of one chip
 pub next-sample : (i : ℕ) (p : Port) (bytes : List ℕ) (j : ℕ) → j < length bytes / 2
     → recordCount Newer p (allSeenBy i (drop j (samplesIn bytes)))
-    ≡ recordsIn (eventOf Newer p (seenBy i (sampleAt bytes j))) + recordCount Newer (stepOf Newer p (seenBy i (sampleAt bytes j))) (allSeenBy i (drop (j + 1) (samplesIn bytes)))
+    ≡ recordsIn (eventOf Newer p (seenBy i (sampleAt bytes j))) + recordCount Newer (stepOf Newer p (seenBy i (sampleAt bytes j)))
+    (allSeenBy i (drop (j + 1) (samplesIn bytes)))
 unfolding recordCount
 next-sample i p bytes j h =
     let xs = samplesIn bytes in
@@ -70,12 +71,14 @@ no-sample i p bytes j h = rw (drop-of-length-le (samplesIn bytes) {i = j} (omega
 
 -- the next chip of a group
 pub next-chip : (g : Group) (xs : List Sample) (i : ℕ) → Listed g → i < g .count
-    → countFrom i (drop i (chipsOf g)) xs ≡ recordCount Newer (portOf (getD (g .members) i noMember)) (allSeenBy i xs) + countFrom (i + 1) (drop (i + 1) (chipsOf g)) xs
+    → countFrom i (drop i (chipsOf g)) xs
+    ≡ recordCount Newer (portOf (getD (g .members) i noMember)) (allSeenBy i xs) + countFrom (i + 1) (drop (i + 1) (chipsOf g)) xs
 unfolding countFrom
 next-chip g xs i listed h =
     let ws = chipsOf g in
     let less : i < length ws = omega (arith, listed .all) in
-    let here : drop i ws ≡ getD (g .members) i noMember ∷ drop (i + 1) ws = drop-cons ws i noMember less ∙ rw (add-one i, getD-take (g .count) (g .members) i noMember h) in
+    let here : drop i ws ≡ getD (g .members) i noMember ∷ drop (i + 1) ws =
+    drop-cons ws i noMember less ∙ rw (add-one i, getD-take (g .count) (g .members) i noMember h) in
     ap (λ (l : List Member). countFrom i l xs) here
 
 pub no-chip : (g : Group) (xs : List Sample) (i : ℕ) → Listed g → g .count ≤ i → countFrom i (drop i (chipsOf g)) xs ≡ 0
@@ -85,7 +88,8 @@ no-chip g xs i listed h = rw (drop-of-length-le (chipsOf g) {i = i} (omega (arit
 -- a chip of a group that is sound
 pub chip-sound : (g : Group) (i : ℕ) → Listed g → i < g .count → allSound (chipsOf g) ≡ true → soundPort Newer (portOf (getD (g .members) i noMember)) ≡ true
 chip-sound g i listed h e =
-    rw (getD-take (g .count) (g .members) i noMember h) at (sound-port (getD (chipsOf g) i noMember) (sound-at (chipsOf g) i noMember e (omega (arith, listed .all))))
+    rw (getD-take (g .count) (g .members) i noMember h) at
+    (sound-port (getD (chipsOf g) i noMember) (sound-at (chipsOf g) i noMember e (omega (arith, listed .all))))
 
 -- some samples of a chip are passed: its port, and how many records they gave
 pub record Counted (i : ℕ) (bytes : List ℕ) (p₀ p : Port) (n j : ℕ) : Type 0 where
@@ -94,7 +98,8 @@ pub record Counted (i : ℕ) (bytes : List ℕ) (p₀ p : Port) (n j : ℕ) : Ty
 
 module _ {i : ℕ} {bytes : List ℕ} {p₀ p : Port} {n j : ℕ} (h : j < length bytes / 2) (now : Counted i bytes p₀ p n j) {x : ℕ} {e : Event} {k : ℕ}
     (seen : x ≡ seenBy i (sampleAt bytes j)) (gave : e ≡ eventOf Newer p x) (records : k ≡ recordsIn e) where
-  next-count : n + k + recordCount Newer (stepOf Newer p x) (allSeenBy i (drop (j + 1) (samplesIn bytes))) ≡ recordCount Newer p₀ (allSeenBy i (samplesIn bytes))
+  next-count : n + k + recordCount Newer (stepOf Newer p x) (allSeenBy i (drop (j + 1) (samplesIn bytes)))
+      ≡ recordCount Newer p₀ (allSeenBy i (samplesIn bytes))
   next-count =
       let here = next-sample i p bytes j h in
       let given : k ≡ recordsIn (eventOf Newer p x) = records ∙ ap recordsIn gave in

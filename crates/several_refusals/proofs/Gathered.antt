@@ -72,7 +72,8 @@ unfolding severalNumber
 too-many m ws size bytes room e = rw (e, and-false (leb 1 (length ws)))
 
 -- The number of the group is the number of the list.
-pub gathered-number : (m : List ℕ) (ws : List Member) (size : ℕ) (bytes : List ℕ) (room : ℕ) → groupNumber m (gathered noGroup ws) size bytes room ≡ severalNumber m ws size bytes room
+pub gathered-number : (m : List ℕ) (ws : List Member) (size : ℕ) (bytes : List ℕ) (room : ℕ)
+    → groupNumber m (gathered noGroup ws) size bytes room ≡ severalNumber m ws size bytes room
 unfolding groupNumber
 gathered-number m ws size bytes room = by (leb (length ws) 8) refl
   where

@@ -94,7 +94,8 @@ module _ (size : ℕ) (rs : List Range) {whole : Bool} (k : ℕ) (good : Bool) w
       let rest = drop (k + 1) rs in
       let same : (inside size r && (apartFrom r rest && rangesGood size rest)) ≡ ((ends && far) && rangesGood size rest) =
       sym (and-assoc (inside size r) (apartFrom r rest) (rangesGood size rest)) ∙ rw (e, f) in
-      one-more (rangesGood size) rs noRange k good (ends && far) h (ap (λ (s : Range). inside size s && (apartFrom s rest && rangesGood size rest)) (sym at) ∙ same) inv
+      one-more (rangesGood size) rs noRange k good (ends && far) h
+      (ap (λ (s : Range). inside size s && (apartFrom s rest && rangesGood size rest)) (sym at) ∙ same) inv
 
   pub ranges-passed : length rs ≤ k → (good && rangesGood size (drop k rs)) ≡ whole → good ≡ whole
   unfolding rangesGood

@@ -36,7 +36,8 @@ module _ (chips : ℕ) (bytes : List ℕ) {whole : Bool} (j : ℕ) (good : Bool)
   unfolding allGood
   good-more here h e inv =
       one-more (allGood chips) (samplesIn bytes) (sampleAt bytes j) j good here (omega (arith, sample-count bytes))
-      (ap (λ (t : Bool). t && allGood chips (drop (j + 1) (samplesIn bytes))) (ap (sampleGood chips) (sample-here bytes j (sampleAt bytes j) (omega arith)) ∙ sym e)) inv
+      (ap (λ (t : Bool). t && allGood chips (drop (j + 1) (samplesIn bytes)))
+      (ap (sampleGood chips) (sample-here bytes j (sampleAt bytes j) (omega arith)) ∙ sym e)) inv
 
   pub samples-passed : length bytes / 2 ≤ j → (good && allGood chips (drop j (samplesIn bytes))) ≡ whole → good ≡ whole
   unfolding allGood

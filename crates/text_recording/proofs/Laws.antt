@@ -90,7 +90,8 @@ module _ (c : Chip) (m : List ℕ) (w : ReaderState) (samples records : List ℕ
       read-number-most c m (λ good. top) w samples (length records) (λ good. words) (omega (arith, piece-bound c (w .session .port) samples few)) in
       each (λ (o : Outcome). o .number ≤ 5) (eqb (readNumber c m w samples (length records)) 0) (λ t. omega arith) (λ t. most)
 
-  module _ {number count : ℕ} {after : ReaderState} {left : List ℕ} (e : outcome number after count left ≡ readOf c m w samples records) (full : length records ≡ recordSpace) where
+  module _ {number count : ℕ} {after : ReaderState} {left : List ℕ} (e : outcome number after count left ≡ readOf c m w samples records)
+      (full : length records ≡ recordSpace) where
     -- how many records a piece leaves
     pub records-within : recordSize * count ≤ recordSpace
     records-within =

@@ -43,7 +43,9 @@ pub placed-counts : (records samples slow : ℕ) {at : ℕ} {old mid later new :
     → Placed (countLine records samples slow) at old new k
 unfolding countLine
 placed-counts records samples slow {at} {old} {mid} {later} {new} {i} {j} {k} p q r =
-    let text = three-numbers (bytesOf "records ") (decimalOf records) (bytesOf " ") (bytesOf "samples ") (decimalOf samples) (bytesOf " ") (bytesOf "slow ") (decimalOf slow) (bytesOf "\n") in
+    let text =
+    three-numbers (bytesOf "records ") (decimalOf records) (bytesOf " ") (bytesOf "samples ") (decimalOf samples) (bytesOf " ") (bytesOf "slow ")
+    (decimalOf slow) (bytesOf "\n") in
     subst (λ (l : List ℕ). Placed l at old new k) text (placed-next p (placed-next q r))
 
 two-numbers : (a l b c m d : List ℕ) → (a ++ l ++ b) ++ (c ++ m ++ d) ≡ a ++ l ++ (b ++ c) ++ m ++ d

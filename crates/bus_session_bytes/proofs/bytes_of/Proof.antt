@@ -61,7 +61,9 @@ cast-t25 c = search needs
 
 returns : tie.Need-returns
 unfolding sessionBytes
-returns c = rw (c .before .before .before .before .before .before .before .before .before .before .before .before .before .before .before .phase-byte .ensures) (simp flag-byte)
+returns c =
+    rw (c .before .before .before .before .before .before .before .before .before .before .before .before .before .before .before .phase-byte .ensures)
+    (simp flag-byte)
 
 pub bytes-of-spec : {M : Type 1} → statement M
 bytes-of-spec =

@@ -50,7 +50,8 @@ returns-2 c =
     let b = v .before .before .before in
     let a = b .before .before .args in
     rw (v .value-fits .ensures)
-    (joined-every true (soundTests (a .chip) Instruction (a .port)) ∙ ap (λ (p : Phase). every (soundTests (a .chip) p (a .port))) (sym (b .enum-told2 .given .1)))
+    (joined-every true (soundTests (a .chip) Instruction (a .port))
+    ∙ ap (λ (p : Phase). every (soundTests (a .chip) p (a .port))) (sym (b .enum-told2 .given .1)))
 
 returns-3 : tie.Need-returns-3
 unfolding soundPort

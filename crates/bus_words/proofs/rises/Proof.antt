@@ -21,7 +21,8 @@ returns-2 : tie.Need-returns-2
 returns-2 c =
     let a = c .before .args in
     let some : highsIn 8 (a .word) ≡ 0 → ⊥ = λ (z : highsIn 8 (a .word) ≡ 0). c .if1 .left (highs-mask 8 (a .word) ∙ z) in
-    ap₂ (λ (m n : ℕ). bitAnd m (n - 1)) (rises-mask (a .level) (a .word) (c .before .pre)) (highs-mask 8 (a .word)) ∙ rises-cut 8 (a .level) (a .word) (c .before .pre) some
+    ap₂ (λ (m n : ℕ). bitAnd m (n - 1)) (rises-mask (a .level) (a .word) (c .before .pre)) (highs-mask 8 (a .word))
+    ∙ rises-cut 8 (a .level) (a .word) (c .before .pre) some
 
 pub rises-spec : {M : Type 1} → statement M
 rises-spec = tie.close (tie.spec returns sub-result returns-2)

@@ -64,7 +64,18 @@ put-rest-requires-2 c κs =
     let n = h .before .before .count .result in
     let e = c .before .head .ensures in (
       omega (arith, e, good-form Newer m (t .good)),
-      omega (arith, e, good-form Newer m (t .good), length-drop (c .before .head .result) m, h .put-head .ensures .next-place, length-head (s .args .wished) n, length-converted (s .args .wished) m (t .good), t .enough, h .put-head .kept),
+      omega (
+        arith,
+        e,
+        good-form Newer m (t .good),
+        length-drop (c .before .head .result) m,
+        h .put-head .ensures .next-place,
+        length-head
+            (s .args .wished) n,
+        length-converted (s .args .wished) m (t .good),
+        t .enough,
+        h .put-head .kept,
+      ),
     )
 
 same-length-2 : tie.Need-same-length-2

@@ -1,12 +1,9 @@
 -- `put_rest` meets its contract: what is put so far, with the bytes of the map that are left, is the whole.
 use mathlib.Core.Path.{refl}
-use mathlib.Core.List.{List, [], _∷_}
-use Prim.Native.Nat.{ℕ, _+_, _-_, _≤_, _<_}
+use Prim.Native.Nat.{_+_, _-_, _≤_}
 use native.Mathlib.Omega.{arith}
-use native.Mathlib.Numerals.{add-one}
-use lib.ListN.{length, getD, drop, drop-of-length-le}
-use lib.Seq.{drop-cons}
-use Rattle.base_bits.proofs.Putting.{Putting, Splits, begun, next-fits, further, ended}
+use lib.ListN.{length, drop, drop-of-length-le}
+use Rattle.base_bits.proofs.Putting.{Putting, begun, next-byte, next-fits, further, ended}
 use Rattle.map_convert.proofs.put_rest.Statement.{statement}
 use Rattle.map_convert.proofs.put_rest.Tie as tie
 
@@ -15,10 +12,6 @@ Inv-loop map from out₀ at n₀ i₀ out n i = (i ≤ length map) × Putting ou
 
 abbrev μ-loop : tie.MeasureT-loop
 μ-loop map from out₀ at n₀ i₀ out n i = length map - i
-
--- the next byte, and those after it
-next-byte : (l : List ℕ) (i : ℕ) → i < length l → Splits (drop i l) (getD l i 0 ∷ []) (drop (i + 1) l)
-next-byte l i h = record { split = rw add-one (drop-cons l i 0 h) }
 
 -- there is room for it
 fits : (c : tie.After-shared-slice-known Inv-loop μ-loop) → c .before .before .loop .n + 1 ≤ length (c .before .before .loop .out)

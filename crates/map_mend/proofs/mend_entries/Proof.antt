@@ -28,7 +28,8 @@ inside e = omega (arith, e .before .before .loop-test .taken, e .before .before 
 
 old :
     (e : tie.After-entry-at Inv-loop μ-loop)
-    → e .entry-at .result ≡ registerAt (e .before .before .before .before .before .before .before .before .args .map .now) (e .before .before .before .loop .address)
+    → e .entry-at .result
+    ≡ registerAt (e .before .before .before .before .before .before .before .before .args .map .now) (e .before .before .before .loop .address)
 old e =
     let at = e .before .before .before in
     let s = at .before .before .before .before .before in

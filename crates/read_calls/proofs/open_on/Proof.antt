@@ -27,7 +27,10 @@ same-length-2 : tie.Need-same-length-2
 same-length-2 c = c .before .before .before .before .reset .kept .1 .1 .0
 
 returns : tie.Need-returns
-returns c = open-done _ _ _ _ (c .before .before .before .before .before .before .before .before .before .open-refusal .ensures) _ (c .before .before .before .before .before .before .before .before .opened .ensures) (c .before .before .before .before .before .before .before .if1 .taken) _ (c .before .before .before .before .reset .ensures)
+returns c =
+    open-done _ _ _ _ (c .before .before .before .before .before .before .before .before .before .open-refusal .ensures) _
+    (c .before .before .before .before .before .before .before .before .opened .ensures)
+    (c .before .before .before .before .before .before .before .if1 .taken) _ (c .before .before .before .before .reset .ensures)
 
 same-length-3 : tie.Need-same-length-3
 same-length-3 c = refl

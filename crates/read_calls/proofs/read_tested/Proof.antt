@@ -25,7 +25,8 @@ returns c =
     read-refused (a .chip) (a .map .now) w (a .samples .now) (a .records .now) _ (c .before .read-refusal .ensures) (c .if1 .taken)
 
 run-samples-requires : tie.Need-run-samples-requires
-run-samples-requires c κs = read-ready _ _ _ _ _ _ (c .before .before .before .before .before .read-refusal .ensures) (c .before .before .before .before .if1 .left)
+run-samples-requires c κs =
+    read-ready _ _ _ _ _ _ (c .before .before .before .before .before .read-refusal .ensures) (c .before .before .before .before .if1 .left)
 
 same-length-4 : tie.Need-same-length-4
 same-length-4 c = search needs
@@ -41,9 +42,12 @@ same-length-7 c = search needs
 
 returns-2 : tie.Need-returns-2
 returns-2 c =
-    let a = c .before .before .before .before .before .before .before .before .before .before .before .before .before .before .before .before .before .before .before .before .before .before .before .before .before .before .args in
+    let a =
+    c .before .before .before .before .before .before .before .before .before .before .before .before .before .before .before .before .before .before .before .before .before .before .before .before .before .before .args in
     let w = readerState (a .session) (a .active .now) (a .buffer .now) (a .words .now) in
-    read-done (a .chip) (a .map .now) w (a .samples .now) (a .records .now) _ (c .before .before .before .before .before .before .before .before .before .before .before .before .before .before .before .before .read-refusal .ensures) (c .before .before .before .before .before .before .before .before .before .before .before .before .before .before .before .if1 .left)
+    read-done (a .chip) (a .map .now) w (a .samples .now) (a .records .now) _
+    (c .before .before .before .before .before .before .before .before .before .before .before .before .before .before .before .before .read-refusal .ensures)
+    (c .before .before .before .before .before .before .before .before .before .before .before .before .before .before .before .if1 .left)
     _ _ _ (c .before .before .before .before .before .before .before .before .before .before .run-samples .ensures .done refl)
 
 pub read-tested-spec : {M : Type 1} → statement M

@@ -25,7 +25,8 @@ records-in-requires c κs = search needs
 
 returns : tie.Need-returns Inv-loop μ-loop
 returns c =
-    found (c .before .before .before .before .before .loop .inv) (c .before .before .before .next-event .ensures .path) _ (c .before .before .records-in .ensures) (c .if1 .taken)
+    found (c .before .before .before .before .before .loop .inv) (c .before .before .before .next-event .ensures .path) _
+    (c .before .before .records-in .ensures) (c .if1 .taken)
 
 loop-less : tie.Need-loop-less Inv-loop μ-loop
 loop-less c =
@@ -34,7 +35,8 @@ loop-less c =
 
 loop-again : tie.Need-loop-again Inv-loop μ-loop
 loop-again c =
-    search-on (c .before .before .before .before .before .loop .inv) (c .before .before .before .next-event .ensures .path) (sym (c .before .before .records-in .ensures) ∙ c .if1 .left)
+    search-on (c .before .before .before .before .before .loop .inv) (c .before .before .before .next-event .ensures .path)
+    (sym (c .before .before .records-in .ensures) ∙ c .if1 .left)
 
 returns-2 : tie.Need-returns-2 Inv-loop μ-loop
 returns-2 c = none-found (c .before .loop .inv) (c .loop-test .left)

@@ -29,7 +29,12 @@ first-record-requires : tie.Need-first-record-requires
 first-record-requires c κs = port-tested _ _ _ _ _ _ _ [] _ (c .before .before .samples-refusal .ensures) (c .before .if1 .left)
 
 mul-if2 : tie.Need-mul-if2
-mul-if2 c = omega (arith, size-fits _ _ _ _ _ _ _ [] _ (c .before .before .before .before .samples-refusal .ensures) (c .before .before .before .if1 .left) (c .before .first-record .ensures))
+mul-if2 c =
+    omega (
+      arith,
+      size-fits _ _ _ _ _ _ _ [] _ (c .before .before .before .before .samples-refusal .ensures) (c .before .before .before .if1 .left)
+          (c .before .first-record .ensures),
+    )
 
 refusal-requires-2 : tie.Need-refusal-requires-2
 refusal-requires-2 c κs = search needs
@@ -44,13 +49,22 @@ same-length-6 : tie.Need-same-length-6
 same-length-6 c = search needs
 
 returns-2 : tie.Need-returns-2
-returns-2 c = rw (c .refusal2 .ensures) (no-room _ _ _ _ _ _ _ _ _ (c .before .before .before .before .before .before .samples-refusal .ensures) (c .before .before .before .before .before .if1 .left) (c .before .before .before .first-record .ensures) (c .before .if2 .taken))
+returns-2 c =
+    rw (c .refusal2 .ensures)
+    (no-room _ _ _ _ _ _ _ _ _ (c .before .before .before .before .before .before .samples-refusal .ensures)
+    (c .before .before .before .before .before .if1 .left) (c .before .before .before .first-record .ensures) (c .before .if2 .taken))
 
 slice-aggregate-read : tie.Need-slice-aggregate-read
-slice-aggregate-read c = sym (short _ _ _ _ _ _ _ [] _ (c .before .before .before .before .before .before .samples-refusal .ensures) (c .before .before .before .before .before .if1 .left) (c .before .before .before .first-record .ensures))
+slice-aggregate-read c =
+    sym
+    (short _ _ _ _ _ _ _ [] _ (c .before .before .before .before .before .before .samples-refusal .ensures)
+    (c .before .before .before .before .before .if1 .left) (c .before .before .before .first-record .ensures))
 
 run-samples-requires : tie.Need-run-samples-requires
-run-samples-requires c κs = ready _ _ _ _ _ _ _ _ _ (c .before .before .before .before .before .before .before .before .before .before .samples-refusal .ensures) (c .before .before .before .before .before .before .before .before .before .if1 .left) (c .before .before .before .before .before .before .before .first-record .ensures) (c .before .before .before .before .before .if2 .left)
+run-samples-requires c κs =
+    ready _ _ _ _ _ _ _ _ _ (c .before .before .before .before .before .before .before .before .before .before .samples-refusal .ensures)
+    (c .before .before .before .before .before .before .before .before .before .if1 .left)
+    (c .before .before .before .before .before .before .before .first-record .ensures) (c .before .before .before .before .before .if2 .left)
 
 same-length-7 : tie.Need-same-length-7
 same-length-7 c = search needs
@@ -66,7 +80,11 @@ same-length-10 c = search needs
 
 returns-3 : tie.Need-returns-3
 returns-3 c =
-    next-done _ _ _ _ _ _ _ _ _ (c .before .before .before .before .before .before .before .before .before .before .before .before .before .before .before .before .before .before .before .before .before .samples-refusal .ensures) (c .before .before .before .before .before .before .before .before .before .before .before .before .before .before .before .before .before .before .before .before .if1 .left) (c .before .before .before .before .before .before .before .before .before .before .before .before .before .before .before .before .before .before .first-record .ensures) (c .before .before .before .before .before .before .before .before .before .before .before .before .before .before .before .before .if2 .left)
+    next-done _ _ _ _ _ _ _ _ _
+    (c .before .before .before .before .before .before .before .before .before .before .before .before .before .before .before .before .before .before .before .before .before .samples-refusal .ensures)
+    (c .before .before .before .before .before .before .before .before .before .before .before .before .before .before .before .before .before .before .before .before .if1 .left)
+    (c .before .before .before .before .before .before .before .before .before .before .before .before .before .before .before .before .before .before .first-record .ensures)
+    (c .before .before .before .before .before .before .before .before .before .before .before .before .before .before .before .before .if2 .left)
     (c .before .before .before .before .before .before .before .before .before .before .run-samples .ensures)
 
 pub next-on-spec : {M : Type 1} → statement M

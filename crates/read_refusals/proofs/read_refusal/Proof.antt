@@ -32,7 +32,8 @@ count-requires : tie.Need-count-requires
 count-requires c κs = search needs
 
 words-fit-requires : tie.Need-words-fit-requires
-words-fit-requires c κs = omega (arith, c .count .ensures, good-count _ _ (c .before .before .before .before .before .before .before .before .before .before .pre) .1)
+words-fit-requires c κs =
+    omega (arith, c .count .ensures, good-count _ _ (c .before .before .before .before .before .before .before .before .before .before .pre) .1)
 
 returns-3 : tie.Need-returns-3
 returns-3 c =
@@ -47,7 +48,9 @@ returns-4 : tie.Need-returns-4
 returns-4 c =
     let a = c .before .before .before .before .before .before .before .before .before .before .before .before .before .args in
     let w = readerState (a .session) (a .active .now) (a .buffer .now) (a .words .now) in
-    let sound = sym (c .before .before .before .before .before .before .before .sound .ensures) ∙ not-false _ (c .before .before .before .before .before .before .if1 .left) in
+    let sound =
+    sym (c .before .before .before .before .before .before .before .sound .ensures)
+    ∙ not-false _ (c .before .before .before .before .before .before .if1 .left) in
     let opens = sym (c .before .before .before .before .before .open-refusal .ensures) ∙ c .before .before .before .before .if2 .left in
     let fit = rw (c .before .before .before .count .ensures) at (c .before .before .words-fit .ensures) in
     too-many _ _ w (a .samples .now) (a .room) sound opens _ fit (not-false _ (c .before .if3 .left)) (c .if4 .taken)
@@ -59,32 +62,54 @@ returns-5 : tie.Need-returns-5
 returns-5 c =
     let a = c .before .before .before .before .before .before .before .before .before .before .before .before .before .before .before .args in
     let w = readerState (a .session) (a .active .now) (a .buffer .now) (a .words .now) in
-    let sound = sym (c .before .before .before .before .before .before .before .before .before .sound .ensures) ∙ not-false _ (c .before .before .before .before .before .before .before .before .if1 .left) in
-    let opens = sym (c .before .before .before .before .before .before .before .open-refusal .ensures) ∙ c .before .before .before .before .before .before .if2 .left in
+    let sound =
+    sym (c .before .before .before .before .before .before .before .before .before .sound .ensures)
+    ∙ not-false _ (c .before .before .before .before .before .before .before .before .if1 .left) in
+    let opens =
+    sym (c .before .before .before .before .before .before .before .open-refusal .ensures) ∙ c .before .before .before .before .before .before .if2 .left in
     let fit = rw (c .before .before .before .before .before .count .ensures) at (c .before .before .before .before .words-fit .ensures) in
-    one-bad _ _ w (a .samples .now) (a .room) sound opens _ fit (not-false _ (c .before .before .before .if3 .left)) (c .before .before .if4 .left) _ (c .before .samples-good .ensures) (not-true _ (c .if5 .taken))
+    one-bad _ _ w (a .samples .now) (a .room) sound opens _ fit (not-false _ (c .before .before .before .if3 .left)) (c .before .before .if4 .left) _
+    (c .before .samples-good .ensures) (not-true _ (c .if5 .taken))
 
 room-suffices-requires : tie.Need-room-suffices-requires
-room-suffices-requires c κs = (sym (c .before .before .before .before .before .before .before .before .before .sound .ensures) ∙ not-false _ (c .before .before .before .before .before .before .before .before .if1 .left), c .before .before .if4 .left)
+room-suffices-requires c κs = (
+  sym (c .before .before .before .before .before .before .before .before .before .sound .ensures)
+      ∙ not-false _ (c .before .before .before .before .before .before .before .before .if1 .left),
+  c .before .before .if4 .left,
+)
 
 returns-6 : tie.Need-returns-6
 returns-6 c =
     let a = c .before .before .before .before .before .before .before .before .before .before .before .before .before .before .before .before .before .args in
     let w = readerState (a .session) (a .active .now) (a .buffer .now) (a .words .now) in
-    let sound = sym (c .before .before .before .before .before .before .before .before .before .before .before .sound .ensures) ∙ not-false _ (c .before .before .before .before .before .before .before .before .before .before .if1 .left) in
-    let opens = sym (c .before .before .before .before .before .before .before .before .before .open-refusal .ensures) ∙ c .before .before .before .before .before .before .before .before .if2 .left in
-    let fit = rw (c .before .before .before .before .before .before .before .count .ensures) at (c .before .before .before .before .before .before .words-fit .ensures) in
-    room-found _ _ w (a .samples .now) (a .room) sound opens _ fit (not-false _ (c .before .before .before .before .before .if3 .left)) (c .before .before .before .before .if4 .left) _ (c .before .before .before .samples-good .ensures) (not-false _ (c .before .before .if5 .left))
+    let sound =
+    sym (c .before .before .before .before .before .before .before .before .before .before .before .sound .ensures)
+    ∙ not-false _ (c .before .before .before .before .before .before .before .before .before .before .if1 .left) in
+    let opens =
+    sym (c .before .before .before .before .before .before .before .before .before .open-refusal .ensures)
+    ∙ c .before .before .before .before .before .before .before .before .if2 .left in
+    let fit =
+    rw (c .before .before .before .before .before .before .before .count .ensures) at
+    (c .before .before .before .before .before .before .words-fit .ensures) in
+    room-found _ _ w (a .samples .now) (a .room) sound opens _ fit (not-false _ (c .before .before .before .before .before .if3 .left))
+    (c .before .before .before .before .if4 .left) _ (c .before .before .before .samples-good .ensures) (not-false _ (c .before .before .if5 .left))
     _ (c .before .room-suffices .ensures) (c .if6 .taken)
 
 returns-7 : tie.Need-returns-7
 returns-7 c =
     let a = c .before .before .before .before .before .before .before .before .before .before .before .before .before .before .before .before .before .args in
     let w = readerState (a .session) (a .active .now) (a .buffer .now) (a .words .now) in
-    let sound = sym (c .before .before .before .before .before .before .before .before .before .before .before .sound .ensures) ∙ not-false _ (c .before .before .before .before .before .before .before .before .before .before .if1 .left) in
-    let opens = sym (c .before .before .before .before .before .before .before .before .before .open-refusal .ensures) ∙ c .before .before .before .before .before .before .before .before .if2 .left in
-    let fit = rw (c .before .before .before .before .before .before .before .count .ensures) at (c .before .before .before .before .before .before .words-fit .ensures) in
-    room-short _ _ w (a .samples .now) (a .room) sound opens _ fit (not-false _ (c .before .before .before .before .before .if3 .left)) (c .before .before .before .before .if4 .left) _ (c .before .before .before .samples-good .ensures) (not-false _ (c .before .before .if5 .left))
+    let sound =
+    sym (c .before .before .before .before .before .before .before .before .before .before .before .sound .ensures)
+    ∙ not-false _ (c .before .before .before .before .before .before .before .before .before .before .if1 .left) in
+    let opens =
+    sym (c .before .before .before .before .before .before .before .before .before .open-refusal .ensures)
+    ∙ c .before .before .before .before .before .before .before .before .if2 .left in
+    let fit =
+    rw (c .before .before .before .before .before .before .before .count .ensures) at
+    (c .before .before .before .before .before .before .words-fit .ensures) in
+    room-short _ _ w (a .samples .now) (a .room) sound opens _ fit (not-false _ (c .before .before .before .before .before .if3 .left))
+    (c .before .before .before .before .if4 .left) _ (c .before .before .before .samples-good .ensures) (not-false _ (c .before .before .if5 .left))
     _ (c .before .room-suffices .ensures) (c .if6 .left)
 
 pub read-refusal-spec : {M : Type 1} → statement M

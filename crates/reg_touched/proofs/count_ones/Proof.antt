@@ -51,7 +51,9 @@ loop-again c =
     let at = c .before .before .loop in
     let ws = c .before .before .before .args .words .now in
     let few = ones-le 64 (getD ws (at .i) 0) (c .shared-slice-known .given (at .i) .fits) in
-    let step = ap (λ (l : List ℕ). trues (touchedBits l)) (drop-cons ws (at .i) 0 (omega (arith, c .before .loop-test .taken))) ∙ bits-trues (getD ws (at .i) 0) (drop (suc (at .i)) ws) (c .shared-slice-known .given (at .i) .fits) in
+    let step =
+    ap (λ (l : List ℕ). trues (touchedBits l)) (drop-cons ws (at .i) 0 (omega (arith, c .before .loop-test .taken)))
+    ∙ bits-trues (getD ws (at .i) 0) (drop (suc (at .i)) ws) (c .shared-slice-known .given (at .i) .fits) in
     let next = ap (λ (k : ℕ). trues (touchedBits (drop k ws))) (add-one (at .i)) in
     (omega (arith, step, next, at .inv .0), omega (arith, few, at .inv .1), omega (arith, c .before .loop-test .taken))
 

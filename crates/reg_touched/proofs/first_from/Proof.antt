@@ -48,7 +48,9 @@ returns-2 c =
     let e : 64 * (a / 64) + a % 64 ≡ a = omega arith in
     let less = c .before .before .if1 .left in
     next-inside ws a _ (omega (arith, less))
-    (ap (λ (k : ℕ). a + k) (sym (next-here ws (a / 64) (a % 64) (omega arith) (omega (arith, less)) (c .before .shared-slice-known2 .given (a / 64) .fits) (c .if2 .taken)) ∙ ap (λ (k : ℕ). firstTrue (drop k (touchedBits ws))) e))
+    (ap (λ (k : ℕ). a + k)
+    (sym (next-here ws (a / 64) (a % 64) (omega arith) (omega (arith, less)) (c .before .shared-slice-known2 .given (a / 64) .fits) (c .if2 .taken))
+    ∙ ap (λ (k : ℕ). firstTrue (drop k (touchedBits ws))) e))
 
 add-first-in-words : tie.Need-add-first-in-words
 add-first-in-words c = search needs
@@ -63,7 +65,9 @@ returns-3 c =
     let a = start .args .address in
     let e : 64 * (a / 64) + a % 64 ≡ a = omega arith in
     let less = c .before .before .before .if1 .left in
-    let beyond = sym (ap (λ (k : ℕ). firstTrue (drop k (touchedBits ws))) e) ∙ next-beyond ws (a / 64) (a % 64) (omega arith) (omega (arith, less)) (c .before .if2 .left) in
+    let beyond =
+    sym (ap (λ (k : ℕ). firstTrue (drop k (touchedBits ws))) e)
+    ∙ next-beyond ws (a / 64) (a % 64) (omega arith) (omega (arith, less)) (c .before .if2 .left) in
     let from = ap (λ (k : ℕ). firstTrue (touchedBits (drop k ws))) (add-one (a / 64)) in
     next-inside ws a _ (omega (arith, less)) (omega (arith, c .first-in-words .ensures, beyond, from, e))
 

@@ -33,13 +33,20 @@ mul-result : tie.Need-mul-result Inv-loop μ-loop
 mul-result c = record { fits = omega (arith, c .before .before .loop-test .taken, c .before .before .before .before .pre .0) }
 
 cast-result : tie.Need-cast-result Inv-loop μ-loop
-cast-result c = record { fits = omega (arith, trailing-le 64 (getD (c .before .before .before .before .args .words .now) (c .before .before .before .loop .at) 0)) }
+cast-result c =
+    record { fits = omega (arith, trailing-le 64 (getD (c .before .before .before .before .args .words .now) (c .before .before .before .loop .at) 0)) }
 
 add-result : tie.Need-add-result Inv-loop μ-loop
 add-result c = record {
   fits =
-      omega
-      (arith, trailing-le 64 (getD (c .before .before .before .before .args .words .now) (c .before .before .before .loop .at) 0), c .before .before .loop-test .taken, c .before .before .before .before .pre .0);
+      omega (
+        arith,
+        trailing-le 64
+            (getD (c .before .before .before .before .args .words .now)
+            (c .before .before .before .loop .at) 0),
+        c .before .before .loop-test .taken,
+        c .before .before .before .before .pre .0,
+      );
 }
 
 returns : tie.Need-returns Inv-loop μ-loop

@@ -29,7 +29,8 @@ effect-of-requires c κs = search needs
 returns-2 : tie.Need-returns-2
 returns-2 c =
     let found = c .before .before in
-    c .effect-of .ensures ∙ rw (c .before .stages-at .ensures, found .entry-at .ensures, c .before .before .before .before .before .before .before .pre .active-size)
+    c .effect-of .ensures
+    ∙ rw (c .before .stages-at .ensures, found .entry-at .ensures, c .before .before .before .before .before .before .before .pre .active-size)
 
 pub effect-at-spec : {M : Type 1} → statement M
 effect-at-spec =

@@ -31,7 +31,8 @@ shared-slice-read-put-frame : tie.Need-shared-slice-read-put-frame Inv-loop μ-l
 shared-slice-read-put-frame c = search needs
 
 -- the stretch that is found
-found : (c : tie.After-stretch-end Inv-loop μ-loop) → Fits (c .before .before .loop .inv .0) (c .before .before .loop .inv .1) (c .before .loop-test .taken) _ (c .stretch-end .ensures)
+found : (c : tie.After-stretch-end Inv-loop μ-loop)
+    → Fits (c .before .before .loop .inv .0) (c .before .before .loop .inv .1) (c .before .loop-test .taken) _ (c .stretch-end .ensures)
 found c = fits (c .before .before .loop .inv .0) (c .before .before .loop .inv .1) (c .before .loop-test .taken) _ (c .stretch-end .ensures)
 
 sub-put-frame : tie.Need-sub-put-frame Inv-loop μ-loop

@@ -22,7 +22,8 @@ listed c = numbers.listed _ (eight c) (c .if1 .left)
 
 -- what is left to test after each test that holds
 after-ranges : (c : tie.Else2) → let a = c .before .before .before .before .before .before .before .args in
-    (n : ℕ) → n ≡ fromSessions (a .map .now) (a .group) (a .samples .now) (a .room) → n ≡ groupNumber (a .map .now) (a .group) (a .size) (a .samples .now) (a .room)
+    (n : ℕ) → n ≡ fromSessions (a .map .now) (a .group) (a .samples .now) (a .room)
+    → n ≡ groupNumber (a .map .now) (a .group) (a .size) (a .samples .now) (a .room)
 after-ranges c =
     let e = c .before .before in
     numbers.after-ranges _ _ _ _ _ (eight e) (e .if1 .left) (sym (c .before .ranges-good .ensures) ∙ not-false _ (c .if2 .left))
@@ -35,19 +36,25 @@ after-sessions : (c : tie.Else3) → let a = c .before .before .before .before .
 after-sessions c n e = after-ranges (c .before .before) n (yes _ (sound c) e)
 
 after-map : (c : tie.Else4) → let a = c .before .before .before .before .before .before .before .before .before .before .before .args in
-    (n : ℕ) → n ≡ fromLengths (a .map .now) (a .group) (a .samples .now) (a .room) → n ≡ groupNumber (a .map .now) (a .group) (a .size) (a .samples .now) (a .room)
+    (n : ℕ) → n ≡ fromLengths (a .map .now) (a .group) (a .samples .now) (a .room)
+    → n ≡ groupNumber (a .map .now) (a .group) (a .size) (a .samples .now) (a .room)
 after-map c n e = after-sessions (c .before .before) n (yes _ (eq-eqb _ 0 (sym (c .before .map-number .ensures) ∙ c .if4 .left)) e)
 
-after-lengths : (c : tie.Else5) → let a = c .before .before .before .before .before .before .before .before .before .before .before .before .before .before .args in
+after-lengths : (c : tie.Else5) → let a =
+    c .before .before .before .before .before .before .before .before .before .before .before .before .before .before .args in
     (n : ℕ) → n ≡ fromSamples (a .group) (a .samples .now) (a .room) → n ≡ groupNumber (a .map .now) (a .group) (a .size) (a .samples .now) (a .room)
 after-lengths c n e =
     let fit = rw (c .before .before .count .ensures) at (c .before .ranges-fit .ensures) in
     after-map (c .before .before .before) n (yes _ (sym fit ∙ not-false _ (c .if5 .left)) e)
 
-good : (c : tie.Else6) → let a = c .before .before .before .before .before .before .before .before .before .before .before .before .before .before .before .before .args in severalSamplesGood (a .group .count) (a .samples .now) ≡ true
+good : (c : tie.Else6) → let a =
+    c .before .before .before .before .before .before .before .before .before .before .before .before .before .before .before .before .args in severalSamplesGood
+    (a .group .count) (a .samples .now)
+    ≡ true
 good c = sym (c .before .samples-good .ensures) ∙ not-false _ (c .if6 .left)
 
-after-samples : (c : tie.Else6) → let a = c .before .before .before .before .before .before .before .before .before .before .before .before .before .before .before .before .args in
+after-samples : (c : tie.Else6) → let a =
+    c .before .before .before .before .before .before .before .before .before .before .before .before .before .before .before .before .args in
     (n : ℕ) → n ≡ fromRoom (a .group) (a .samples .now) (a .room) → n ≡ groupNumber (a .map .now) (a .group) (a .size) (a .samples .now) (a .room)
 after-samples c n e = after-lengths (c .before .before) n (yes _ (good c) e)
 
@@ -94,7 +101,13 @@ returns-6 : tie.Need-returns-6
 returns-6 c = after-lengths (c .before .before) 5 (no _ (sym (c .before .samples-good .ensures) ∙ not-true _ (c .if6 .taken)) refl)
 
 room-suffices-requires : tie.Need-room-suffices-requires
-room-suffices-requires c κs = record { listed = listed (c .before .before .before .before .before .before .before .before .before .before .before); sound = sound (c .before .before .before .before .before .before .before); good = good c }
+room-suffices-requires c κs =
+    record {
+      listed = listed (c .before .before .before .before .before .before .before .before .before .before .before);
+      sound = sound
+          (c .before .before .before .before .before .before .before);
+      good = good c;
+    }
 
 returns-7 : tie.Need-returns-7
 returns-7 c = after-samples (c .before .before) 0 (yes _ (sym (c .before .room-suffices .ensures) ∙ c .if7 .taken) refl)

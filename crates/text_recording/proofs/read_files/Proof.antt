@@ -26,10 +26,24 @@ returns : tie.Need-returns
 returns c = rw (c .unread .ensures) tt
 
 array-share-prefix-map : tie.Need-array-share-prefix-map
-array-share-prefix-map c = omega (arith, within-bytes (c .before .length .given .1) (c .before .before .before .before .read-map .ensures), c .before .before .before .before .read-map .kept .1 .1 .0)
+array-share-prefix-map c =
+    omega (
+      arith,
+      within-bytes (c .before .length .given .1)
+          (c .before .before .before .before .read-map .ensures),
+      c .before .before .before .before .read-map .kept .1 .1 .0,
+    )
 
 slice-aggregate-given : tie.Need-slice-aggregate-given
-slice-aggregate-given c = sym (length-take-le _ _ (omega (arith, within-bytes (c .before .before .length .given .1) (c .before .before .before .before .before .read-map .ensures), c .before .before .before .before .before .read-map .kept .1 .1 .0)))
+slice-aggregate-given c =
+    sym
+    (length-take-le _ _
+    (omega (
+      arith,
+      within-bytes (c .before .before .length .given .1)
+          (c .before .before .before .before .before .read-map .ensures),
+      c .before .before .before .before .before .read-map .kept .1 .1 .0,
+    )))
 
 bank-size-requires : tie.Need-bank-size-requires
 bank-size-requires c κs = tt
@@ -53,10 +67,13 @@ array-borrow-prefix-words : tie.Need-array-borrow-prefix-words
 array-borrow-prefix-words c = omega (arith, c .before .before .before .bank-size .ensures, c .word-count .ensures)
 
 slice-aggregate-read-opened-3 : tie.Need-slice-aggregate-read-opened-3
-slice-aggregate-read-opened-3 c = sym (length-take-le _ _ (omega (arith, c .before .before .before .before .bank-size .ensures, c .before .word-count .ensures)))
+slice-aggregate-read-opened-3 c =
+    sym (length-take-le _ _ (omega (arith, c .before .before .before .before .bank-size .ensures, c .before .word-count .ensures)))
 
 read-opened-requires : tie.Need-read-opened-requires
-read-opened-requires c κs = length-take-le _ _ (omega (arith, c .before .before .before .before .bank-size .ensures, c .before .word-count .ensures)) ∙ (rw (c .before .before .before .before .bank-size .ensures) at (c .before .word-count .ensures))
+read-opened-requires c κs =
+    length-take-le _ _ (omega (arith, c .before .before .before .before .bank-size .ensures, c .before .word-count .ensures))
+    ∙ (rw (c .before .before .before .before .bank-size .ensures) at (c .before .word-count .ensures))
 
 returns-2 : tie.Need-returns-2
 returns-2 c = search needs

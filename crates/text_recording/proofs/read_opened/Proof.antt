@@ -14,7 +14,11 @@ open-on-requires : tie.Need-open-on-requires
 open-on-requires c κs = tt
 
 refuse-requires : tie.Need-refuse-requires
-refuse-requires c κs = (omega (arith, c .if1 .taken), open-told _ _ (c .before .before .before .before .before .before .before .before .chip-of .ensures) _ (c .before .before .before .before .before .open-on .ensures))
+refuse-requires c κs = (
+  omega (arith, c .if1 .taken),
+  open-told _ _ (c .before .before .before .before .before .before .before .before .chip-of .ensures) _
+      (c .before .before .before .before .before .open-on .ensures),
+)
 
 unread-requires : tie.Need-unread-requires
 unread-requires c κs = tt
@@ -36,8 +40,16 @@ write-map-line-requires c κs = tt
 
 read-trace-requires : tie.Need-read-trace-requires
 read-trace-requires c κs =
-    let good = opened-good _ _ _ (c .before .before .before .before .before .before .before .before .before .before .before .open-on .ensures) (c .before .before .before .before .before .before .if1 .left) in
-    (good, top-of-map _ _ (c .before .before .before .before .before .before .before .before .before .before .before .before .before .before .chip-of .ensures) good, words-of-map _ _ (c .before .before .before .before .before .before .before .before .before .before .before .before .before .before .before .before .before .before .before .args .words .now) good (c .before .before .before .before .before .before .before .before .before .before .before .before .before .before .before .before .before .before .before .pre))
+    let good =
+    opened-good _ _ _ (c .before .before .before .before .before .before .before .before .before .before .before .open-on .ensures)
+    (c .before .before .before .before .before .before .if1 .left) in (
+      good,
+      top-of-map _ _
+          (c .before .before .before .before .before .before .before .before .before .before .before .before .before .before .chip-of .ensures) good,
+      words-of-map _ _
+          (c .before .before .before .before .before .before .before .before .before .before .before .before .before .before .before .before .before .before .before .args .words .now) good
+          (c .before .before .before .before .before .before .before .before .before .before .before .before .before .before .before .before .before .before .before .pre),
+    )
 
 same-length-3 : tie.Need-same-length-3
 same-length-3 c = search needs

@@ -49,7 +49,8 @@ refused-within r =
     let s = at-start r in
     let words = words-still _ (at-loop r .loop .words) (s .args .words .now) (h .same-words) (s .pre .2) in
     let few = few-samples r in
-    piece-told _ _ _ _ _ (r .read-tested .ensures) (h .records-room) (s .pre .1) words (few-taken _ (omega (arith, few, filled r .fill .kept .1 .0, h .samples-room)) few)
+    piece-told _ _ _ _ _ (r .read-tested .ensures) (h .records-room) (s .pre .1) words
+    (few-taken _ (omega (arith, few, filled r .fill .kept .1 .0, h .samples-room)) few)
 
 -- the records of the piece fit into their buffer
 records-fit : (r : Read) → recordSize * r .read-tested .result .count ≤ recordSpace
@@ -117,10 +118,12 @@ slice-aggregate-piece c =
     sym (length-take-le _ _ (omega (arith, within-bytes (c .before .before .got .given .1) (f .ensures), f .kept .1 .0)))
 
 slice-aggregate-read-tested : tie.Need-slice-aggregate-read-tested Inv-loop μ-loop
-slice-aggregate-read-tested c = sym (c .before .before .before .before .before .before .before .before .before .before .before .before .before .loop .inv .records-room)
+slice-aggregate-read-tested c =
+    sym (c .before .before .before .before .before .before .before .before .before .before .before .before .before .loop .inv .records-room)
 
 read-tested-requires : tie.Need-read-tested-requires Inv-loop μ-loop
-read-tested-requires c κs = c .before .before .before .before .before .before .before .before .before .before .before .before .before .before .before .before .before .before .before .before .before .before .pre .0
+read-tested-requires c κs =
+    c .before .before .before .before .before .before .before .before .before .before .before .before .before .before .before .before .before .before .before .before .before .before .pre .0
 
 refuse-requires : tie.Need-refuse-requires Inv-loop μ-loop
 refuse-requires c κs = (omega (arith, c .if2 .taken), refused-within (c .before .before .before .before .before .before .before .before .before))
@@ -129,19 +132,26 @@ up-to-bad-requires : tie.Need-up-to-bad-requires Inv-loop μ-loop
 up-to-bad-requires c κs =
     let r = c .before .before .before .before .before .before .before .before .before .before in
     let few = few-samples r in
-    samples-countable (at-loop r .loop .tally) _ (omega (arith, few, filled r .fill .kept .1 .0, at-loop r .loop .inv .samples-room)) (in-loop r .if1 .taken) few
+    samples-countable (at-loop r .loop .tally) _ (omega (arith, few, filled r .fill .kept .1 .0, at-loop r .loop .inv .samples-room))
+    (in-loop r .if1 .taken) few
 
 ended-requires-2 : tie.Need-ended-requires-2 Inv-loop μ-loop
 ended-requires-2 c κs = tt
 
 same-length-4 : tie.Need-same-length-4 Inv-loop μ-loop
-same-length-4 c = let r = c .before .before .before .before .before .before .before .before .before .before .before .before in r .read-tested .kept .1 .1 .1 .0 ∙ at-loop r .loop .inv .same-active
+same-length-4 c =
+    let r = c .before .before .before .before .before .before .before .before .before .before .before .before in
+    r .read-tested .kept .1 .1 .1 .0 ∙ at-loop r .loop .inv .same-active
 
 same-length-5 : tie.Need-same-length-5 Inv-loop μ-loop
-same-length-5 c = let r = c .before .before .before .before .before .before .before .before .before .before .before .before in r .read-tested .kept .1 .1 .1 .1 .0 ∙ at-loop r .loop .inv .same-buffer
+same-length-5 c =
+    let r = c .before .before .before .before .before .before .before .before .before .before .before .before in
+    r .read-tested .kept .1 .1 .1 .1 .0 ∙ at-loop r .loop .inv .same-buffer
 
 same-length-6 : tie.Need-same-length-6 Inv-loop μ-loop
-same-length-6 c = let r = c .before .before .before .before .before .before .before .before .before .before .before .before in r .read-tested .kept .1 .1 .1 .1 .1 .0 ∙ at-loop r .loop .inv .same-words
+same-length-6 c =
+    let r = c .before .before .before .before .before .before .before .before .before .before .before .before in
+    r .read-tested .kept .1 .1 .1 .1 .1 .0 ∙ at-loop r .loop .inv .same-words
 
 returns-2 : tie.Need-returns-2 Inv-loop μ-loop
 returns-2 c = rw (c .ended2 .ensures) (c .before .before .refuse .ensures)
@@ -150,27 +160,45 @@ mul-size : tie.Need-mul-size Inv-loop μ-loop
 mul-size c = let r = c .before .before .before .before .before .before .before .before .before .before in omega (arith, records-fit r)
 
 slice-aggregate-write-lines : tie.Need-slice-aggregate-write-lines Inv-loop μ-loop
-slice-aggregate-write-lines c = let r = c .before .before .before .before .before .before .before .before .before .before .before in sym (r .read-tested .kept .1 .1 .1 .1 .1 .1 .1 .0 ∙ at-loop r .loop .inv .records-room)
+slice-aggregate-write-lines c =
+    let r = c .before .before .before .before .before .before .before .before .before .before .before in
+    sym (r .read-tested .kept .1 .1 .1 .1 .1 .1 .1 .0 ∙ at-loop r .loop .inv .records-room)
 
 slice-aggregate-write-lines-2 : tie.Need-slice-aggregate-write-lines-2 Inv-loop μ-loop
-slice-aggregate-write-lines-2 c = let r = c .before .before .before .before .before .before .before .before .before .before .before .before .before in sym (at-loop r .loop .inv .text-room)
+slice-aggregate-write-lines-2 c =
+    let r = c .before .before .before .before .before .before .before .before .before .before .before .before .before in sym (at-loop r .loop .inv .text-room)
 
 write-lines-requires : tie.Need-write-lines-requires Inv-loop μ-loop
 write-lines-requires c κs =
-    let r = c .before .before .before .before .before .before .before .before .before .before .before .before .before in
-    (omega (arith, records-fit r, r .read-tested .kept .1 .1 .1 .1 .1 .1 .1 .0 ∙ at-loop r .loop .inv .records-room), at-loop r .before .before .before .fill-pairs .ensures, omega (arith, at-loop r .loop .inv .text-room))
+    let r = c .before .before .before .before .before .before .before .before .before .before .before .before .before in (
+      omega (
+        arith,
+        records-fit r,
+        r .read-tested .kept .1 .1 .1 .1 .1 .1 .1 .0
+            ∙ at-loop r .loop .inv .records-room,
+      ),
+      at-loop r .before .before .before .fill-pairs .ensures,
+      omega
+          (arith, at-loop r .loop .inv .text-room),
+    )
 
 ended-requires-3 : tie.Need-ended-requires-3 Inv-loop μ-loop
 ended-requires-3 c κs = tt
 
 same-length-7 : tie.Need-same-length-7 Inv-loop μ-loop
-same-length-7 c = let r = c .before .before .before .before .before .before .before .before .before .before .before .before .before .before .before .before .before in r .read-tested .kept .1 .1 .1 .0 ∙ at-loop r .loop .inv .same-active
+same-length-7 c =
+    let r = c .before .before .before .before .before .before .before .before .before .before .before .before .before .before .before .before .before in
+    r .read-tested .kept .1 .1 .1 .0 ∙ at-loop r .loop .inv .same-active
 
 same-length-8 : tie.Need-same-length-8 Inv-loop μ-loop
-same-length-8 c = let r = c .before .before .before .before .before .before .before .before .before .before .before .before .before .before .before .before .before in r .read-tested .kept .1 .1 .1 .1 .0 ∙ at-loop r .loop .inv .same-buffer
+same-length-8 c =
+    let r = c .before .before .before .before .before .before .before .before .before .before .before .before .before .before .before .before .before in
+    r .read-tested .kept .1 .1 .1 .1 .0 ∙ at-loop r .loop .inv .same-buffer
 
 same-length-9 : tie.Need-same-length-9 Inv-loop μ-loop
-same-length-9 c = let r = c .before .before .before .before .before .before .before .before .before .before .before .before .before .before .before .before .before in r .read-tested .kept .1 .1 .1 .1 .1 .0 ∙ at-loop r .loop .inv .same-words
+same-length-9 c =
+    let r = c .before .before .before .before .before .before .before .before .before .before .before .before .before .before .before .before .before in
+    r .read-tested .kept .1 .1 .1 .1 .1 .0 ∙ at-loop r .loop .inv .same-words
 
 returns-3 : tie.Need-returns-3 Inv-loop μ-loop
 returns-3 c = rw (c .ended3 .ensures) tt
@@ -190,7 +218,8 @@ counted-requires c κs =
     let r = c .before .before .before .before .before .before .before .before .before .before .before .before .before .before .before .before .before in
     let h = at-loop r .loop .inv in
     let few = few-samples r in
-    countable _ _ (omega (arith, few, filled r .fill .kept .1 .0, h .samples-room)) (h .counts) _ (records-fit r) (omega (arith, records-fit r, r .read-tested .kept .1 .1 .1 .1 .1 .1 .1 .0 ∙ at-loop r .loop .inv .records-room)) (in-loop r .if1 .taken) few
+    countable _ _ (omega (arith, few, filled r .fill .kept .1 .0, h .samples-room)) (h .counts) _ (records-fit r)
+    (omega (arith, records-fit r, r .read-tested .kept .1 .1 .1 .1 .1 .1 .1 .0 ∙ at-loop r .loop .inv .records-room)) (in-loop r .if1 .taken) few
 
 close-requires : tie.Need-close-requires Inv-loop μ-loop
 close-requires c κs = tt
@@ -199,25 +228,37 @@ ended-requires-4 : tie.Need-ended-requires-4 Inv-loop μ-loop
 ended-requires-4 c κs = tt
 
 same-length-10 : tie.Need-same-length-10 Inv-loop μ-loop
-same-length-10 c = let r = c .before .before .before .before .before .before .before .before .before .before .before .before .before .before .before .before .before .before .before .before .before in r .read-tested .kept .1 .1 .1 .0 ∙ at-loop r .loop .inv .same-active
+same-length-10 c =
+    let r =
+    c .before .before .before .before .before .before .before .before .before .before .before .before .before .before .before .before .before .before .before .before .before in
+    r .read-tested .kept .1 .1 .1 .0 ∙ at-loop r .loop .inv .same-active
 
 same-length-11 : tie.Need-same-length-11 Inv-loop μ-loop
-same-length-11 c = let r = c .before .before .before .before .before .before .before .before .before .before .before .before .before .before .before .before .before .before .before .before .before in r .read-tested .kept .1 .1 .1 .1 .0 ∙ at-loop r .loop .inv .same-buffer
+same-length-11 c =
+    let r =
+    c .before .before .before .before .before .before .before .before .before .before .before .before .before .before .before .before .before .before .before .before .before in
+    r .read-tested .kept .1 .1 .1 .1 .0 ∙ at-loop r .loop .inv .same-buffer
 
 same-length-12 : tie.Need-same-length-12 Inv-loop μ-loop
-same-length-12 c = let r = c .before .before .before .before .before .before .before .before .before .before .before .before .before .before .before .before .before .before .before .before .before in r .read-tested .kept .1 .1 .1 .1 .1 .0 ∙ at-loop r .loop .inv .same-words
+same-length-12 c =
+    let r =
+    c .before .before .before .before .before .before .before .before .before .before .before .before .before .before .before .before .before .before .before .before .before in
+    r .read-tested .kept .1 .1 .1 .1 .1 .0 ∙ at-loop r .loop .inv .same-words
 
 returns-4 : tie.Need-returns-4 Inv-loop μ-loop
 returns-4 c = rw (c .ended4 .ensures) (c .before .close .ensures)
 
 loop-less : tie.Need-loop-less Inv-loop μ-loop
 loop-less c =
-    let r = c .before .before .before .before .before .before .before .before .before .before .before .before .before .before .before .before .before .before .before .before in
-    fewer-left _ _ (omega (arith, few-samples r, filled r .fill .kept .1 .0, at-loop r .loop .inv .samples-room)) (in-loop r .if1 .taken) _ (c .before .before .counted .ensures) (c .before .if4 .left)
+    let r =
+    c .before .before .before .before .before .before .before .before .before .before .before .before .before .before .before .before .before .before .before .before in
+    fewer-left _ _ (omega (arith, few-samples r, filled r .fill .kept .1 .0, at-loop r .loop .inv .samples-room)) (in-loop r .if1 .taken) _
+    (c .before .before .counted .ensures) (c .before .if4 .left)
 
 loop-again : tie.Need-loop-again Inv-loop μ-loop
 loop-again c =
-    let r = c .before .before .before .before .before .before .before .before .before .before .before .before .before .before .before .before .before .before .before .before in
+    let r =
+    c .before .before .before .before .before .before .before .before .before .before .before .before .before .before .before .before .before .before .before .before in
     let k = r .read-tested .kept in
     let h = at-loop r .loop .inv in
     record {
@@ -227,7 +268,10 @@ loop-again c =
       samples-room = filled r .fill .kept .1 .0 ∙ h .samples-room;
       records-room = r .read-tested .kept .1 .1 .1 .1 .1 .1 .1 .0 ∙ at-loop r .loop .inv .records-room;
       text-room = c .before .before .before .before .before .before .write-lines .kept .1 .1 .1 .1 .0 ∙ h .text-room;
-      counts = counts-more _ _ (omega (arith, few-samples r, filled r .fill .kept .1 .0, h .samples-room)) (h .counts) _ (records-fit r) (omega (arith, records-fit r, r .read-tested .kept .1 .1 .1 .1 .1 .1 .1 .0 ∙ at-loop r .loop .inv .records-room)) (c .before .before .counted .ensures) (c .before .if4 .left);
+      counts =
+          counts-more _ _ (omega (arith, few-samples r, filled r .fill .kept .1 .0, h .samples-room)) (h .counts) _ (records-fit r)
+          (omega (arith, records-fit r, r .read-tested .kept .1 .1 .1 .1 .1 .1 .1 .0 ∙ at-loop r .loop .inv .records-room))
+          (c .before .before .counted .ensures) (c .before .if4 .left);
     }
 
 ended-requires-5 : tie.Need-ended-requires-5 Inv-loop μ-loop

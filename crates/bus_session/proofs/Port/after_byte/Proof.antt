@@ -33,7 +33,9 @@ starting-requires : tie.Need-starting-requires
 starting-requires c κs = search needs
 
 returns : tie.Need-returns
-returns c = let a = c .before .before .before .before .args in yes _ (c .before .if1 .taken) (c .starting .ensures) ∙ after-by (a .chip) (a .self) (a .settings) (c .before .before .counting .ensures) refl refl refl
+returns c =
+    let a = c .before .before .before .before .args in
+    yes _ (c .before .if1 .taken) (c .starting .ensures) ∙ after-by (a .chip) (a .self) (a .settings) (c .before .before .counting .ensures) refl refl refl
 
 runs-out-requires : tie.Need-runs-out-requires
 runs-out-requires c κs = search needs
@@ -42,7 +44,10 @@ passing-requires : tie.Need-passing-requires
 passing-requires c κs = search needs
 
 returns-2 : tie.Need-returns-2
-returns-2 c = let a = c .before .before .before .before .before .before .args in no _ (c .before .before .before .if1 .left) (yes _ (c .before .if2 .taken) (c .passing .ensures)) ∙ after-by (a .chip) (a .self) (a .settings) (c .before .before .before .before .counting .ensures) (c .before .before .runs-out .ensures) refl refl
+returns-2 c =
+    let a = c .before .before .before .before .before .before .args in
+    no _ (c .before .before .before .if1 .left) (yes _ (c .before .if2 .taken) (c .passing .ensures))
+    ∙ after-by (a .chip) (a .self) (a .settings) (c .before .before .before .before .counting .ensures) (c .before .before .runs-out .ensures) refl refl
 
 next-address-requires : tie.Need-next-address-requires
 next-address-requires c κs = search needs
@@ -54,7 +59,11 @@ in-data-requires : tie.Need-in-data-requires
 in-data-requires c κs = search needs
 
 returns-3 : tie.Need-returns-3
-returns-3 c = let a = c .before .before .before .before .before .before .before .before .args in no _ (c .before .before .before .before .before .if1 .left) (no _ (c .before .before .before .if2 .left) (c .in-data .ensures)) ∙ after-by (a .chip) (a .self) (a .settings) (c .before .before .before .before .before .before .counting .ensures) (c .before .before .before .before .runs-out .ensures) (c .before .before .next-address .ensures) (c .before .left-after .ensures)
+returns-3 c =
+    let a = c .before .before .before .before .before .before .before .before .args in
+    no _ (c .before .before .before .before .before .if1 .left) (no _ (c .before .before .before .if2 .left) (c .in-data .ensures))
+    ∙ after-by (a .chip) (a .self) (a .settings) (c .before .before .before .before .before .before .counting .ensures)
+    (c .before .before .before .before .runs-out .ensures) (c .before .before .next-address .ensures) (c .before .left-after .ensures)
 
 pub after-byte-spec : {M : Type 1} → statement M
 after-byte-spec =

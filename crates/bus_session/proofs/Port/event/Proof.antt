@@ -20,9 +20,9 @@ use Rattle.bus_session.proofs.Port.event.Statement.{statement}
 use Rattle.bus_session.proofs.Port.event.Tie as tie
 
 -- nothing where the first test fails or the second holds
-joined : (a b : Bool) (e : Event) → cond (not a || b) Nothing e ≡ cond a (cond b Nothing e) Nothing
-joined true b e = refl
-joined false b e = refl
+nested-tests : (a b : Bool) (e : Event) → cond (not a || b) Nothing e ≡ cond a (cond b Nothing e) Nothing
+nested-tests true b e = refl
+nested-tests false b e = refl
 
 -- nothing where a test fails or another holds
 unless-both : (a b : Bool) (e : Event) → cond (not a || b) Nothing e ≡ cond (a && not b) e Nothing
@@ -37,13 +37,14 @@ eventBy k s x takes in-data csb stall =
     (cond (not in-data || ltb (s .bits) 7) Nothing (Whole (s .read) (s .address) (valueWith s (dataLine k s x))))
     (cond (not (not (s .csb) && csb) || stall) Nothing (cond (eqb (s .bits) 0) Ended (Aborted (s .address) (s .bits) in-data)))
 
-event-by : (k : Chip) (s : Port) (x : ℕ) {takes in-data csb stall : Bool} → takes ≡ takesBit s x → in-data ≡ isData (s .phase) → csb ≡ csbOf x → stall ≡ mayStall s
+event-by : (k : Chip) (s : Port) (x : ℕ) {takes in-data csb stall : Bool} → takes ≡ takesBit s x → in-data ≡ isData (s .phase) → csb ≡ csbOf x
+    → stall ≡ mayStall s
     → eventBy k s x takes in-data csb stall ≡ eventOf k s x
 unfolding eventOf bitEvent endEvent
 event-by k s x d e f g =
     (λ i. eventBy k s x (d i) (e i) (f i) (g i))
     ∙ (λ i. cond (takesBit s x)
-    (joined (isData (s .phase)) (ltb (s .bits) 7) (Whole (s .read) (s .address) (valueWith s (dataLine k s x))) i)
+    (nested-tests (isData (s .phase)) (ltb (s .bits) 7) (Whole (s .read) (s .address) (valueWith s (dataLine k s x))) i)
     (unless-both (csbRises s x) (mayStall s) (cond (eqb (s .bits) 0) Ended (Aborted (s .address) (s .bits) (isData (s .phase)))) i))
 
 is-data-requires : tie.Need-is-data-requires
@@ -80,7 +81,8 @@ returns-2 : tie.Need-returns-2
 returns-2 c =
     let b = c .before .before .before .before .before .before .before in
     let a = b .before .before .args in
-    let l = c .before .data-line .ensures ∙ ap (λ (u : InUse). cond (a .self .read && u .«sdo_active») (sdoOf (a .sample)) (sdioOf (a .sample))) (c .before .before .counting .ensures) in
+    let l = c .before .data-line .ensures ∙ ap (λ (u : InUse). cond (a .self .read && u .«sdo_active») (sdoOf (a .sample)) (sdioOf (a .sample)))
+    (c .before .before .counting .ensures) in
     let v = c .shift-in .ensures ∙ ap (valueWith (a .self)) l in
     yes _ (c .before .before .before .before .before .before .if1 .taken)
     (no _ (c .before .before .before .before .if2 .left) (ap (Whole (a .self .read) (a .self .address)) v))
@@ -97,7 +99,8 @@ returns-3 c =
     let b = c .before .before .before .before .before in
     let a = b .before .before .args in
     no _ (c .before .before .before .before .if1 .left) (yes _ (c .if3 .taken) refl)
-    ∙ event-by (a .chip) (a .self) (a .sample) (b .takes-bit .ensures) (b .before .is-data .ensures) (c .before .before .bit-at .ensures) (c .before .may-stall .ensures)
+    ∙ event-by (a .chip) (a .self) (a .sample) (b .takes-bit .ensures) (b .before .is-data .ensures) (c .before .before .bit-at .ensures)
+    (c .before .may-stall .ensures)
 
 returns-4 : tie.Need-returns-4
 returns-4 c =

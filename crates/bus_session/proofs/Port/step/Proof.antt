@@ -43,7 +43,9 @@ returns : tie.Need-returns
 returns c =
     let b = c .before .before .before .before .before .before .before in
     let a = b .before .args in
-    yes _ (c .before .if1 .taken) (c .starting .ensures) ∙ step-by (a .chip) (a .self) (a .sample) (b .takes-bit .ensures) (c .before .before .before .before .before .before .bit-at .ensures) (c .before .before .before .before .before .bit-at2 .ensures) refl
+    yes _ (c .before .if1 .taken) (c .starting .ensures)
+    ∙ step-by (a .chip) (a .self) (a .sample) (b .takes-bit .ensures) (c .before .before .before .before .before .before .bit-at .ensures)
+    (c .before .before .before .before .before .bit-at2 .ensures) refl
 
 enum-told : tie.Need-enum-told
 enum-told c = search needs
@@ -52,8 +54,15 @@ returns-2 : tie.Need-returns-2
 returns-2 c =
     let b = c .before .before .before .before .before .before .before .before .before in
     let a = b .before .args in
-    let v : atLevels (a .self) (c .before .before .before .before .before .before .before .before .bit-at .result) (c .before .before .before .before .before .before .before .bit-at2 .result) ≡ withLevels (a .self) (a .sample) = λ i. atLevels (a .self) (c .before .before .before .before .before .before .before .before .bit-at .ensures i) (c .before .before .before .before .before .before .before .bit-at2 .ensures i) in
-    no _ (c .before .before .before .if1 .left) (yes _ (c .before .before .if2 .taken) (v ∙ ap (λ (p : Phase). withBit (a .chip) p (a .self) (a .sample)) (sym (c .enum-told .given .1)))) ∙ step-by (a .chip) (a .self) (a .sample) (b .takes-bit .ensures) (c .before .before .before .before .before .before .before .before .bit-at .ensures) (c .before .before .before .before .before .before .before .bit-at2 .ensures) refl
+    let v : atLevels (a .self) (c .before .before .before .before .before .before .before .before .bit-at .result)
+    (c .before .before .before .before .before .before .before .bit-at2 .result)
+    ≡ withLevels (a .self) (a .sample) =
+    λ i. atLevels (a .self) (c .before .before .before .before .before .before .before .before .bit-at .ensures i)
+    (c .before .before .before .before .before .before .before .bit-at2 .ensures i) in
+    no _ (c .before .before .before .if1 .left)
+    (yes _ (c .before .before .if2 .taken) (v ∙ ap (λ (p : Phase). withBit (a .chip) p (a .self) (a .sample)) (sym (c .enum-told .given .1))))
+    ∙ step-by (a .chip) (a .self) (a .sample) (b .takes-bit .ensures) (c .before .before .before .before .before .before .before .before .bit-at .ensures)
+    (c .before .before .before .before .before .before .before .bit-at2 .ensures) refl
 
 enum-told-2 : tie.Need-enum-told-2
 enum-told-2 c = search needs
@@ -69,7 +78,13 @@ unfolding withInstructionBit
 returns-3 c =
     let b = c .before .before .before .before .before .before .before .before .before .before .before in
     let a = b .before .args in
-    no _ (c .before .before .before .before .before .if1 .left) (yes _ (c .before .before .before .before .if2 .taken) (c .with-instruction-bit .ensures ∙ ap (withInstructionBit (a .chip) (a .self)) (c .before .bit-at3 .ensures) ∙ ap (λ (p : Phase). withBit (a .chip) p (a .self) (a .sample)) (sym (c .before .before .enum-told2 .given .1)))) ∙ step-by (a .chip) (a .self) (a .sample) (b .takes-bit .ensures) (c .before .before .before .before .before .before .before .before .before .before .bit-at .ensures) (c .before .before .before .before .before .before .before .before .before .bit-at2 .ensures) refl
+    no _ (c .before .before .before .before .before .if1 .left)
+    (yes _ (c .before .before .before .before .if2 .taken)
+    (c .with-instruction-bit .ensures ∙ ap (withInstructionBit (a .chip) (a .self)) (c .before .bit-at3 .ensures)
+    ∙ ap (λ (p : Phase). withBit (a .chip) p (a .self) (a .sample)) (sym (c .before .before .enum-told2 .given .1))))
+    ∙ step-by (a .chip) (a .self) (a .sample) (b .takes-bit .ensures)
+    (c .before .before .before .before .before .before .before .before .before .before .bit-at .ensures)
+    (c .before .before .before .before .before .before .before .before .before .bit-at2 .ensures) refl
 
 enum-told-3 : tie.Need-enum-told-3
 enum-told-3 c = search needs
@@ -88,8 +103,16 @@ unfolding withDataBit
 returns-4 c =
     let b = c .before .before .before .before .before .before .before .before .before .before .before .before .before in
     let a = b .before .args in
-    let e = c .before .data-line .ensures ∙ ap (λ (u : InUse). cond (a .self .read && u .«sdo_active») (sdoOf (a .sample)) (sdioOf (a .sample))) (c .before .before .counting .ensures) in
-    no _ (c .before .before .before .before .before .before .before .if1 .left) (yes _ (c .before .before .before .before .before .before .if2 .taken) (c .with-data-bit .ensures ∙ ap (withDataBit (a .chip) (a .self)) e ∙ ap (λ (p : Phase). withBit (a .chip) p (a .self) (a .sample)) (sym (c .before .before .before .before .enum-told3 .given .1)))) ∙ step-by (a .chip) (a .self) (a .sample) (b .takes-bit .ensures) (c .before .before .before .before .before .before .before .before .before .before .before .before .bit-at .ensures) (c .before .before .before .before .before .before .before .before .before .before .before .bit-at2 .ensures) refl
+    let e =
+    c .before .data-line .ensures
+    ∙ ap (λ (u : InUse). cond (a .self .read && u .«sdo_active») (sdoOf (a .sample)) (sdioOf (a .sample))) (c .before .before .counting .ensures) in
+    no _ (c .before .before .before .before .before .before .before .if1 .left)
+    (yes _ (c .before .before .before .before .before .before .if2 .taken)
+    (c .with-data-bit .ensures ∙ ap (withDataBit (a .chip) (a .self)) e
+    ∙ ap (λ (p : Phase). withBit (a .chip) p (a .self) (a .sample)) (sym (c .before .before .before .before .enum-told3 .given .1))))
+    ∙ step-by (a .chip) (a .self) (a .sample) (b .takes-bit .ensures)
+    (c .before .before .before .before .before .before .before .before .before .before .before .before .bit-at .ensures)
+    (c .before .before .before .before .before .before .before .before .before .before .before .bit-at2 .ensures) refl
 
 may-stall-requires : tie.Need-may-stall-requires
 may-stall-requires c κs = search needs
@@ -101,13 +124,20 @@ returns-5 : tie.Need-returns-5
 returns-5 c =
     let b = c .before .before .before .before .before .before .before .before .before .before .before in
     let a = b .before .args in
-    no _ (c .before .before .before .before .before .if1 .left) (no _ (c .before .before .before .before .if2 .left) (yes _ (c .before .if3 .taken) (c .resting .ensures))) ∙ step-by (a .chip) (a .self) (a .sample) (b .takes-bit .ensures) (c .before .before .before .before .before .before .before .before .before .before .bit-at .ensures) (c .before .before .before .before .before .before .before .before .before .bit-at2 .ensures) (c .before .before .may-stall .ensures)
+    no _ (c .before .before .before .before .before .if1 .left)
+    (no _ (c .before .before .before .before .if2 .left) (yes _ (c .before .if3 .taken) (c .resting .ensures)))
+    ∙ step-by (a .chip) (a .self) (a .sample) (b .takes-bit .ensures)
+    (c .before .before .before .before .before .before .before .before .before .before .bit-at .ensures)
+    (c .before .before .before .before .before .before .before .before .before .bit-at2 .ensures) (c .before .before .may-stall .ensures)
 
 returns-6 : tie.Need-returns-6
 returns-6 c =
     let b = c .before .before .before .before .before .before .before .before .before .before in
     let a = b .before .args in
-    no _ (c .before .before .before .before .if1 .left) (no _ (c .before .before .before .if2 .left) (no _ (c .if3 .left) refl)) ∙ step-by (a .chip) (a .self) (a .sample) (b .takes-bit .ensures) (c .before .before .before .before .before .before .before .before .before .bit-at .ensures) (c .before .before .before .before .before .before .before .before .bit-at2 .ensures) (c .before .may-stall .ensures)
+    no _ (c .before .before .before .before .if1 .left) (no _ (c .before .before .before .if2 .left) (no _ (c .if3 .left) refl))
+    ∙ step-by (a .chip) (a .self) (a .sample) (b .takes-bit .ensures)
+    (c .before .before .before .before .before .before .before .before .before .bit-at .ensures)
+    (c .before .before .before .before .before .before .before .before .bit-at2 .ensures) (c .before .may-stall .ensures)
 
 pub step-spec : {M : Type 1} → statement M
 step-spec =

@@ -40,7 +40,9 @@ returns : tie.Need-returns
 returns c = yes _ (lt-ltb _ _ (c .before .before .if1 .taken)) (c .in-data .ensures) ∙ bit-by _ _ _ (c .before .before .before .before .shift-in .ensures) refl
 
 cast-settings-on-byte : tie.Need-cast-settings-on-byte
-cast-settings-on-byte c = let b = c .before .before .before .before .before in omega (arith, c .before .before .shift-in .ensures, byte-lt (b .args .self) (b .args .bit) (b .pre .0) (ap isData (b .pre .1)))
+cast-settings-on-byte c =
+    let b = c .before .before .before .before .before in
+    omega (arith, c .before .before .shift-in .ensures, byte-lt (b .args .self) (b .args .bit) (b .pre .0) (ap isData (b .pre .1)))
 
 settings-on-byte-requires : tie.Need-settings-on-byte-requires
 settings-on-byte-requires c κs = search needs
@@ -49,7 +51,9 @@ after-byte-requires : tie.Need-after-byte-requires
 after-byte-requires c κs = search needs
 
 returns-2 : tie.Need-returns-2
-returns-2 c = no _ (le-ltb _ _ (c .before .before .if1 .left)) (c .after-byte .ensures) ∙ bit-by _ _ _ (c .before .before .before .before .shift-in .ensures) (c .before .settings-on-byte .ensures)
+returns-2 c =
+    no _ (le-ltb _ _ (c .before .before .if1 .left)) (c .after-byte .ensures)
+    ∙ bit-by _ _ _ (c .before .before .before .before .shift-in .ensures) (c .before .settings-on-byte .ensures)
 
 pub with-data-bit-spec : {M : Type 1} → statement M
 with-data-bit-spec =

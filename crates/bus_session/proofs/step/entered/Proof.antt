@@ -31,18 +31,32 @@ in-data-requires-2 c κs = search needs
 
 returns : tie.Need-returns
 unfolding entered
-returns c = yes _ (le-leb _ _ (c .before .if1 .taken)) (c .in-data2 .ensures) ∙ ap (λ (k : Chip). entered k (c .before .before .before .before .before .args .value) (c .before .before .before .before .before .args .settings) (c .before .before .before .before .before .args .in-use)) (sym (c .before .before .before .chip .given .1))
+returns c =
+    yes _ (le-leb _ _ (c .before .if1 .taken)) (c .in-data2 .ensures)
+    ∙ ap
+    (λ (k : Chip). entered k (c .before .before .before .before .before .args .value) (c .before .before .before .before .before .args .settings)
+    (c .before .before .before .before .before .args .in-use))
+    (sym (c .before .before .before .chip .given .1))
 
 passing-requires : tie.Need-passing-requires
 passing-requires c κs = search needs
 
 returns-2 : tie.Need-returns-2
 unfolding entered
-returns-2 c = c .in-data .ensures ∙ ap (λ (k : Chip). entered k (c .before .before .before .args .value) (c .before .before .before .args .settings) (c .before .before .before .args .in-use)) (sym (c .before .enum-told .given .1))
+returns-2 c =
+    c .in-data .ensures
+    ∙ ap
+    (λ (k : Chip). entered k (c .before .before .before .args .value) (c .before .before .before .args .settings) (c .before .before .before .args .in-use))
+    (sym (c .before .enum-told .given .1))
 
 returns-3 : tie.Need-returns-3
 unfolding entered
-returns-3 c = no _ (lt-leb _ _ (c .before .if1 .left)) (c .passing .ensures) ∙ ap (λ (k : Chip). entered k (c .before .before .before .before .before .args .value) (c .before .before .before .before .before .args .settings) (c .before .before .before .before .before .args .in-use)) (sym (c .before .before .before .chip .given .1))
+returns-3 c =
+    no _ (lt-leb _ _ (c .before .if1 .left)) (c .passing .ensures)
+    ∙ ap
+    (λ (k : Chip). entered k (c .before .before .before .before .before .args .value) (c .before .before .before .before .before .args .settings)
+    (c .before .before .before .before .before .args .in-use))
+    (sym (c .before .before .before .chip .given .1))
 
 pub entered-spec : {M : Type 1} → statement M
 entered-spec =

@@ -19,10 +19,18 @@ after-older-requires : tie.Need-after-older-requires
 after-older-requires c κs = search needs
 
 returns : tie.Need-returns
-returns c = c .after-newer .ensures ∙ ap (λ (k : Chip). settingsAfter k (c .before .before .before .args .self) (c .before .before .before .args .address) (c .before .before .before .args .v)) (sym (c .before .enum-told .given .1))
+returns c =
+    c .after-newer .ensures
+    ∙ ap (λ (k : Chip). settingsAfter k (c .before .before .before .args .self) (c .before .before .before .args .address) (c .before .before .before .args .v))
+    (sym (c .before .enum-told .given .1))
 
 returns-2 : tie.Need-returns-2
-returns-2 c = c .after-older .ensures ∙ ap (λ (k : Chip). settingsAfter k (c .before .before .before .before .args .self) (c .before .before .before .before .args .address) (c .before .before .before .before .args .v)) (sym (c .before .before .chip .given .1))
+returns-2 c =
+    c .after-older .ensures
+    ∙ ap
+    (λ (k : Chip). settingsAfter k (c .before .before .before .before .args .self) (c .before .before .before .before .args .address)
+    (c .before .before .before .before .args .v))
+    (sym (c .before .before .chip .given .1))
 
 pub after-spec : {M : Type 1} → statement M
 after-spec =

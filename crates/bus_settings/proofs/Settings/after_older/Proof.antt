@@ -23,7 +23,9 @@ bit-at-requires-2 c κs = search needs
 
 returns-2 : tie.Need-returns-2
 unfolding olderAfter
-returns-2 c = no _ (ne-eqb _ _ (c .before .before .before .if1 .left)) (yes _ (rw (c .before .before .part-reads-buffer .ensures) at (c .before .if2 .taken)) (rw (c .bit-at2 .ensures)))
+returns-2 c =
+    no _ (ne-eqb _ _ (c .before .before .before .if1 .left))
+    (yes _ (rw (c .before .before .part-reads-buffer .ensures) at (c .before .if2 .taken)) (rw (c .bit-at2 .ensures)))
 
 returns-3 : tie.Need-returns-3
 unfolding olderAfter

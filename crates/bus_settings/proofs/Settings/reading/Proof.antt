@@ -19,10 +19,16 @@ reading-older-requires : tie.Need-reading-older-requires
 reading-older-requires c κs = search needs
 
 returns : tie.Need-returns
-returns c = c .reading-newer .ensures ∙ ap (λ (k : Chip). controlReading k (c .before .before .before .args .self) (c .before .before .before .args .address)) (sym (c .before .enum-told .given .1))
+returns c =
+    c .reading-newer .ensures
+    ∙ ap (λ (k : Chip). controlReading k (c .before .before .before .args .self) (c .before .before .before .args .address))
+    (sym (c .before .enum-told .given .1))
 
 returns-2 : tie.Need-returns-2
-returns-2 c = c .reading-older .ensures ∙ ap (λ (k : Chip). controlReading k (c .before .before .before .args .self) (c .before .before .before .args .address)) (sym (c .before .enum-told2 .given .1))
+returns-2 c =
+    c .reading-older .ensures
+    ∙ ap (λ (k : Chip). controlReading k (c .before .before .before .args .self) (c .before .before .before .args .address))
+    (sym (c .before .enum-told2 .given .1))
 
 pub reading-spec : {M : Type 1} → statement M
 reading-spec =

@@ -19,10 +19,14 @@ bit-at-requires-2 : tie.Need-bit-at-requires-2
 bit-at-requires-2 c κs = search needs
 
 returns : tie.Need-returns
-returns c = rw (c .bit-at .ensures) (ap (λ (k : Chip). transfersAt k (c .before .before .before .args .address) (c .before .before .before .args .v)) (sym (c .before .enum-told .given .1)))
+returns c =
+    rw (c .bit-at .ensures)
+    (ap (λ (k : Chip). transfersAt k (c .before .before .before .args .address) (c .before .before .before .args .v)) (sym (c .before .enum-told .given .1)))
 
 returns-2 : tie.Need-returns-2
-returns-2 c = rw (c .bit-at2 .ensures) (ap (λ (k : Chip). transfersAt k (c .before .before .before .args .address) (c .before .before .before .args .v)) (sym (c .before .enum-told2 .given .1)))
+returns-2 c =
+    rw (c .bit-at2 .ensures)
+    (ap (λ (k : Chip). transfersAt k (c .before .before .before .args .address) (c .before .before .before .args .v)) (sym (c .before .enum-told2 .given .1)))
 
 pub transfers-at-spec : {M : Type 1} → statement M
 transfers-at-spec =

@@ -11,7 +11,7 @@ use Rattle.bus_words.specs.Words.{wordOf}
 use Rattle.bus_words.proofs.Lanes.{lows-le}
 use borrow.Author.Needs.{needs}
 use Rattle.bus_trace.specs.Scan.{progress, ProgressBounds, RisesAhead, LanesTaken}
-use Rattle.bus_trace.proofs.Onward.{taken, gathered-begun, next-rise, gathered-more}
+use Rattle.bus_trace.proofs.Lanes.{taken, gathered-begun, next-rise, gathered-more}
 use Rattle.bus_trace.proofs.scan.bits_at.Statement.{statement}
 use Rattle.bus_trace.proofs.scan.bits_at.Tie as tie
 

@@ -5,7 +5,8 @@ use native.Mathlib.Omega.{arith}
 use borrow.Author.Needs.{needs}
 use Rattle.bus_words.specs.Lanes.{highsIn, lowsIn, levelIn, risesIn}
 use Rattle.bus_words.proofs.Lanes.{lows-le, lows-full}
-use Rattle.bus_trace.proofs.Onward.{going-begun, rise-inside, took-rise, took-before-high}
+use Rattle.bus_trace.proofs.Onward.{going-begun}
+use Rattle.bus_trace.proofs.Lanes.{rise-inside, took-rise, took-before-high}
 use Rattle.bus_trace.proofs.scan.take_before_high.Statement.{statement}
 use Rattle.bus_trace.proofs.scan.take_before_high.Tie as tie
 

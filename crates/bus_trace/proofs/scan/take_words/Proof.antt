@@ -5,7 +5,8 @@ use native.Mathlib.Omega.{arith}
 use lib.ListN.{length}
 use borrow.Author.Needs.{needs}
 use Rattle.bus_words.specs.Lanes.{highsIn, lowsIn, risesIn}
-use Rattle.bus_trace.proofs.Onward.{Going, going-begun, rise-inside, took-rise, word-passed, took-join}
+use Rattle.bus_trace.proofs.Onward.{Going, going-begun, took-join}
+use Rattle.bus_trace.proofs.Lanes.{rise-inside, took-rise, word-passed}
 use Rattle.bus_trace.proofs.scan.take_words.Statement.{statement}
 use Rattle.bus_trace.proofs.scan.take_words.Tie as tie
 

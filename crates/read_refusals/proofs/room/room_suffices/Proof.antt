@@ -19,7 +19,9 @@ mul-if1 c = search needs
 returns : tie.Need-returns
 returns c =
     let a = c .before .before .args in
-    sym (le-leb (recordSize * recordCount (a .chip) (a .session .port) (a .samples .now)) (a .room) (omega (arith, records-bound (a .chip) (a .session .port) (a .samples .now), c .if1 .taken)))
+    sym
+    (le-leb (recordSize * recordCount (a .chip) (a .session .port) (a .samples .now)) (a .room)
+    (omega (arith, records-bound (a .chip) (a .session .port) (a .samples .now), c .if1 .taken)))
 
 count-records-requires : tie.Need-count-records-requires
 count-records-requires c κs = search needs

@@ -31,7 +31,8 @@ loop-less c = omega arith
 loop-again : tie.Need-loop-again Inv-loop μ-loop
 loop-again c = (
   omega arith,
-  good-more (c .before .before .before .args .samples .now) (c .before .before .loop .together) (c .before .before .loop .i) (c .before .before .loop .inv .1) (c .before .loop-test .taken),
+  good-more (c .before .before .before .args .samples .now) (c .before .before .loop .together) (c .before .before .loop .i) (c .before .before .loop .inv .1)
+      (c .before .loop-test .taken),
 )
 
 returns : tie.Need-returns Inv-loop μ-loop

@@ -60,7 +60,8 @@ shared-slice-read-result c =
 returns-3 : tie.Need-returns-3
 returns-3 c =
     let at = c .before .before .before .before in
-    waits _ _ _ _ _ _ (kind-is (at .before .before)) (at .before .if1 .left) (at .if2 .left) (rw (c .before .before .before .reads-buffer .ensures) at (c .before .if3 .taken))
+    waits _ _ _ _ _ _ (kind-is (at .before .before)) (at .before .if1 .left) (at .if2 .left)
+    (rw (c .before .before .before .reads-buffer .ensures) at (c .before .if3 .taken))
 
 shared-slice-read-result-2 : tie.Need-shared-slice-read-result-2
 shared-slice-read-result-2 c =
@@ -70,7 +71,8 @@ shared-slice-read-result-2 c =
 returns-4 : tie.Need-returns-4
 returns-4 c =
     let at = c .before .before .before .before in
-    in-force _ _ _ _ _ _ (kind-is (at .before .before)) (at .before .if1 .left) (at .if2 .left) (rw (c .before .before .before .reads-buffer .ensures) at (c .before .if3 .left))
+    in-force _ _ _ _ _ _ (kind-is (at .before .before)) (at .before .if1 .left) (at .if2 .left)
+    (rw (c .before .before .before .reads-buffer .ensures) at (c .before .if3 .left))
 
 pub due-byte-spec : {M : Type 1} → statement M
 due-byte-spec =

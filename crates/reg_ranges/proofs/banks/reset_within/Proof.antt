@@ -59,7 +59,8 @@ returns c =
       second .put-defaults2 .ensures,
       lent-back all (at .memory .now) (at .n) (at .active) size (start .pre .active-fits),
     )
-    (lent-back all (sets (at .memory .now) (at .active) all) (at .n) (at .buffer) size (omega (arith, length-sets (at .memory .now) (at .active) all, start .pre .buffer-fits)))
+    (lent-back all (sets (at .memory .now) (at .active) all) (at .n) (at .buffer) size
+    (omega (arith, length-sets (at .memory .now) (at .active) all, start .pre .buffer-fits)))
 
 pub reset-within-spec : {M : Type 1} → statement M
 reset-within-spec =

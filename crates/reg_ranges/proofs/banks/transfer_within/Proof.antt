@@ -57,7 +57,9 @@ loop-again c =
     let start = at .before .before .before .before in
     let inv = at .before .loop .inv in
     let e = kind-is (c .before .before) in
-    ⊎-elim (λ w. rw (w .2) (moving-stored (start .pre) inv (at .loop-test .taken) _ (yes _ (eq-eqb _ _ (e ∙ w .0 .taken)) (buffer-byte (start .pre) inv (at .loop-test .taken)))))
+    ⊎-elim
+    (λ w. rw (w .2)
+    (moving-stored (start .pre) inv (at .loop-test .taken) _ (yes _ (eq-eqb _ _ (e ∙ w .0 .taken)) (buffer-byte (start .pre) inv (at .loop-test .taken)))))
     (λ w. rw (w .1) (moving-kept (start .pre) inv (at .loop-test .taken) (no _ (ne-eqb _ _ (λ q. w .0 .left (sym e ∙ q))) refl)))
     (c .if1 .came)
 

@@ -4,9 +4,9 @@ use Prim.Native.Nat.{_+_, _-_, _≤_, _<_}
 use native.Mathlib.Omega.{arith}
 use lib.ListN.{length, drop, drop-of-length-le}
 use borrow.Author.Needs.{needs}
-use Rattle.base_bits.proofs.Putting.{Putting, begun, next-fits, further, ended}
+use Rattle.base_bits.proofs.Putting.{Putting, begun, next-byte, next-fits, further, ended}
 use Rattle.send_frames.specs.Frames.{dataOf}
-use Rattle.send_frames.proofs.Data.{length-data, next-byte}
+use Rattle.send_frames.proofs.Data.{length-data}
 use Rattle.send_frames.proofs.frame.put_data.Statement.{statement}
 use Rattle.send_frames.proofs.frame.put_data.Tie as tie
 
@@ -17,7 +17,8 @@ abbrev μ-loop : tie.MeasureT-loop
 μ-loop ascending bytes out₀ at n₀ i₀ out n i = length bytes - i
 
 -- a byte of the data is left
-left : (c : tie.In-loop Inv-loop μ-loop) → let s = c .before .before .before .before in c .before .loop .i < length (dataOf (s .args .ascending) (s .args .bytes .now))
+left : (c : tie.In-loop Inv-loop μ-loop) → let s =
+    c .before .before .before .before in c .before .loop .i < length (dataOf (s .args .ascending) (s .args .bytes .now))
 left c = let s = c .before .before .before .before in omega (arith, length-data (s .args .ascending) (s .args .bytes .now), c .loop-test .taken)
 
 -- there is room for it

@@ -27,7 +27,8 @@ returns c =
     let second = c .before .before in
     let first = second .before .before .before .before in
     let s = first .before .before .before .before .before in
-    rw (length-data (s .args .ascending) (s .args .bytes .now), ← first .before .before .start-of .ensures) (put-both (first .put-head .ensures) (second .put-data .ensures))
+    rw (length-data (s .args .ascending) (s .args .bytes .now), ← first .before .before .start-of .ensures)
+    (put-both (first .put-head .ensures) (second .put-data .ensures))
 
 pub put-frame-spec : {M : Type 1} → statement M
 put-frame-spec = tie.close (tie.spec cast-count start-of-requires put-head-requires put-data-requires same-length returns)

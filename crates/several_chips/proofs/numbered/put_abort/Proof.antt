@@ -17,7 +17,8 @@ put-abort-requires : tie.Need-put-abort-requires
 put-abort-requires c κs = simp length-set (omega arith)
 
 put : (c : tie.After-slice-known2)
-    → let a = c .before .before .before .before .before .args in Put (a .records .now) (a .at) (a .chip) (abortRecord (a .address) (a .bits) (a .in-data)) (c .before .before .put-abort .last .0)
+    → let a = c .before .before .before .before .before .args in Put (a .records .now) (a .at) (a .chip) (abortRecord (a .address) (a .bits) (a .in-data))
+    (c .before .before .put-abort .last .0)
 put c = put-after _ _ _ _ (c .before .before .put-abort .ensures)
 
 same-length : tie.Need-same-length

@@ -18,7 +18,8 @@ put-read-requires : tie.Need-put-read-requires
 put-read-requires c κs = simp length-set (omega arith)
 
 put : (c : tie.After-slice-known2)
-    → let a = c .before .before .before .before .before .args in Put (a .records .now) (a .at) (a .chip) (readRecord (a .address) (a .due) (a .line)) (c .before .before .put-read .last .0)
+    → let a = c .before .before .before .before .before .args in Put (a .records .now) (a .at) (a .chip) (readRecord (a .address) (a .due) (a .line))
+    (c .before .before .put-read .last .0)
 put c = put-after _ _ _ _ (c .before .before .put-read .ensures)
 
 add-records : tie.Need-add-records

@@ -17,7 +17,8 @@ put-write-requires : tie.Need-put-write-requires
 put-write-requires c κs = simp length-set (omega arith)
 
 put : (c : tie.After-slice-known2)
-    → let a = c .before .before .before .before .before .args in Put (a .records .now) (a .at) (a .chip) (writeRecord (a .address) (a .byte) (a .written)) (c .before .before .put-write .last .0)
+    → let a = c .before .before .before .before .before .args in Put (a .records .now) (a .at) (a .chip) (writeRecord (a .address) (a .byte) (a .written))
+    (c .before .before .put-write .last .0)
 put c = put-after _ _ _ _ (c .before .before .put-write .ensures)
 
 same-length : tie.Need-same-length

@@ -20,13 +20,21 @@ other-low-requires : tie.Need-other-low-requires
 other-low-requires c κs = search needs
 
 event-requires : tie.Need-event-requires
-event-requires c κs = rw (c .before .before .before .before .before .before .session-of .ensures) (fit-member _ (c .before .before .before .before .before .before .before .before .before .before .before .before .pre .sound))
+event-requires c κs =
+    rw (c .before .before .before .before .before .before .session-of .ensures)
+    (fit-member _ (c .before .before .before .before .before .before .before .before .before .before .before .before .pre .sound))
 
 step-requires : tie.Need-step-requires
-step-requires c κs = rw (c .before .before .before .before .before .before .before .session-of .ensures) (fit-member _ (c .before .before .before .before .before .before .before .before .before .before .before .before .before .pre .sound))
+step-requires c κs =
+    rw (c .before .before .before .before .before .before .before .session-of .ensures)
+    (fit-member _ (c .before .before .before .before .before .before .before .before .before .before .before .before .before .pre .sound))
 
 take-within-requires : tie.Need-take-within-requires
-take-within-requires c κs = taking-event (c .before .before .before .before .before .before .before .before .before .before .before .before .before .before .before .before .pre) (c .before .before .before .before .before .before .before .before .before .before .session-of .ensures) (c .before .before .before .before .before .before .before .sees .ensures) (c .before .before .before .before .before .before .takes-bit .ensures) (c .before .before .before .before .other-low .ensures) (c .before .before .before .event .ensures)
+take-within-requires c κs =
+    taking-event (c .before .before .before .before .before .before .before .before .before .before .before .before .before .before .before .before .pre)
+    (c .before .before .before .before .before .before .before .before .before .before .session-of .ensures)
+    (c .before .before .before .before .before .before .before .sees .ensures) (c .before .before .before .before .before .before .takes-bit .ensures)
+    (c .before .before .before .before .other-low .ensures) (c .before .before .before .event .ensures)
 
 mid-read-requires : tie.Need-mid-read-requires
 mid-read-requires c κs = search needs
@@ -43,7 +51,9 @@ same-length-2 c = search needs
 returns : tie.Need-returns
 returns c =
     let at = c .before .before .before .before .before .before .before .before .before in
-    moved-by-event (at .before .before .before .before .before .before .before .before .before .before .before .before .before .before .pre) (at .before .before .before .before .before .before .before .before .session-of .ensures) (at .before .before .before .before .before .sees .ensures) (at .before .before .before .before .takes-bit .ensures) (at .before .before .other-low .ensures) (at .before .event .ensures)
+    moved-by-event (at .before .before .before .before .before .before .before .before .before .before .before .before .before .before .pre)
+    (at .before .before .before .before .before .before .before .before .session-of .ensures) (at .before .before .before .before .before .sees .ensures)
+    (at .before .before .before .before .takes-bit .ensures) (at .before .before .other-low .ensures) (at .before .event .ensures)
     (at .step .ensures) (c .before .before .before .before .before .before .take-within .ensures) (c .before .mid-read .ensures) (c .with-session .ensures)
 
 pub move-member-spec : {M : Type 1} → statement M

@@ -48,14 +48,18 @@ next-turn-requires c κs = search needs
 returns : tie.Need-returns
 returns c =
     let start = c .before .before .before .before .before .before .before .before .before .before .before .before .before .before .before in
-    stepped-still (start .pre) _ (session-small (start .args .t2) _ (start .good .1 .0)) (c .before .before .before .before .only-levels .ensures) (c .before .before .before .if1 .taken) (c .before .before .before .before .before .before .before .sees .ensures)
+    stepped-still (start .pre) _ (session-small (start .args .t2) _ (start .good .1 .0)) (c .before .before .before .before .only-levels .ensures)
+    (c .before .before .before .if1 .taken) (c .before .before .before .before .before .before .before .sees .ensures)
     (c .before .before .bit-at .ensures) (c .before .with-clock .ensures) (c .next-turn .ensures)
 
 move-member-requires : tie.Need-move-member-requires
 move-member-requires c κs = search needs
 
 next-turn-requires-2 : tie.Need-next-turn-requires-2
-next-turn-requires-2 c κs = let start = c .before .before .before .before .before .before .before .before .before .before .before .before .before .before .before .before .before .before .before .before in omega (arith, start .pre, start .good)
+next-turn-requires-2 c κs =
+    let start =
+    c .before .before .before .before .before .before .before .before .before .before .before .before .before .before .before .before .before .before .before .before in
+    omega (arith, start .pre, start .good)
 
 same-length : tie.Need-same-length
 same-length c = search needs
@@ -64,7 +68,10 @@ same-length-2 : tie.Need-same-length-2
 same-length-2 c = search needs
 
 returns-2 : tie.Need-returns-2
-returns-2 c = stepped-moved (c .before .before .before .before .before .before .before .before .before .before .before .before .before .before .before .before .before .before .before .before .before .pre) _ (c .before .before .before .before .before .before .move-member .ensures) (c .next-turn2 .ensures)
+returns-2 c =
+    stepped-moved
+    (c .before .before .before .before .before .before .before .before .before .before .before .before .before .before .before .before .before .before .before .before .before .pre) _
+    (c .before .before .before .before .before .before .move-member .ensures) (c .next-turn2 .ensures)
 
 pub step-member-spec : {M : Type 1} → statement M
 step-member-spec =

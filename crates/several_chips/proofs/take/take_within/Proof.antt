@@ -17,7 +17,9 @@ due-within-requires : tie.Need-due-within-requires
 due-within-requires c κs = search needs
 
 put-read-requires : tie.Need-put-read-requires
-put-read-requires c κs = room-for (c .before .before .before .before .before .before .before .before .before .before .pre) (ap recordsIn (c .before .before .before .before .before .event .given .1))
+put-read-requires c κs =
+    room-for (c .before .before .before .before .before .before .before .before .before .before .pre)
+    (ap recordsIn (c .before .before .before .before .before .event .given .1))
 
 add-t29 : tie.Need-add-t29
 add-t29 c = search needs
@@ -29,37 +31,49 @@ same-length-2 : tie.Need-same-length-2
 same-length-2 c = search needs
 
 returns : tie.Need-returns
-returns c = took-read (c .before .before .before .before .before .before .before .before .before .before .before .before .before .pre) (c .before .before .before .before .before .before .before .before .event .given .1) (c .before .before .before .before .before .before .if1 .taken) (c .before .before .before .before .due-within .ensures) (c .before .before .put-read .ensures)
+returns c =
+    took-read (c .before .before .before .before .before .before .before .before .before .before .before .before .before .pre)
+    (c .before .before .before .before .before .before .before .before .event .given .1) (c .before .before .before .before .before .before .if1 .taken)
+    (c .before .before .before .before .due-within .ensures) (c .before .before .put-read .ensures)
 
 write-within-requires : tie.Need-write-within-requires
 write-within-requires c κs = search needs
 
 put-write-requires : tie.Need-put-write-requires
-put-write-requires c κs = room-for (c .before .before .before .before .before .before .before .before .before .before .before .before .pre) (ap recordsIn (c .before .before .before .before .before .before .before .event .given .1))
+put-write-requires c κs =
+    room-for (c .before .before .before .before .before .before .before .before .before .before .before .before .pre)
+    (ap recordsIn (c .before .before .before .before .before .before .before .event .given .1))
 
 armed-on-requires : tie.Need-armed-on-requires
 armed-on-requires c κs = search needs
 
 add-t36 : tie.Need-add-t36
-add-t36 c = omega (arith, room-for (c .before .before .before .before .before .before .before .before .before .before .before .before .before .before .before .before .pre) (ap recordsIn (c .before .before .before .before .before .before .before .before .before .before .before .event .given .1)), c .before .before .before .before .before .before .before .before .before .before .before .before .before .before .before .before .good)
+add-t36 c =
+    omega (
+      arith,
+      room-for (c .before .before .before .before .before .before .before .before .before .before .before .before .before .before .before .before .pre)
+          (ap recordsIn
+          (c .before .before .before .before .before .before .before .before .before .before .before .event .given .1)),
+      c .before .before .before .before .before .before .before .before .before .before .before .before .before .before .before .before .good,
+    )
 
 enum-known-event-2 : tie.Need-enum-known-event-2
 enum-known-event-2 c = search needs
 
-end-within-requires : tie.Need-end-within-requires
-end-within-requires c κs = search needs
-
 put-abort-requires : tie.Need-put-abort-requires
-put-abort-requires c κs = room-for (c .before .before .before .before .before .before .before .before .before .before .before .pre) (ap recordsIn (c .before .before .before .before .before .before .event2 .given .1))
+put-abort-requires c κs = room-for (c .before .before .before .before .before .before .before .pre) (ap recordsIn (c .before .before .event2 .given .1))
 
-add-t42 : tie.Need-add-t42
-add-t42 c = search needs
+add-take-end-within : tie.Need-add-take-end-within
+add-take-end-within c = search needs
+
+take-end-within-requires : tie.Need-take-end-within-requires
+take-end-within-requires c κs = search needs
 
 enum-told-2 : tie.Need-enum-told-2
 enum-told-2 c = search needs
 
-end-within-requires-2 : tie.Need-end-within-requires-2
-end-within-requires-2 c κs = search needs
+take-end-within-requires-2 : tie.Need-take-end-within-requires-2
+take-end-within-requires-2 c κs = search needs
 
 returns-2 : tie.Need-returns-2
 returns-2 c = took-nothing (c .before .before .before .before .before .pre) (c .enum-told .given .1)
@@ -71,7 +85,11 @@ same-length-4 : tie.Need-same-length-4
 same-length-4 c = search needs
 
 returns-3 : tie.Need-returns-3
-returns-3 c = took-write (c .before .before .before .before .before .before .before .before .before .before .before .before .before .before .before .before .pre) (c .before .before .before .before .before .before .before .before .before .before .before .event .given .1) (c .before .before .before .before .before .before .before .before .before .if1 .left) (c .before .before .before .before .before .before .before .write-within .ensures) (c .before .before .before .put-write .ensures) (c .armed-on .ensures)
+returns-3 c =
+    took-write (c .before .before .before .before .before .before .before .before .before .before .before .before .before .before .before .before .pre)
+    (c .before .before .before .before .before .before .before .before .before .before .before .event .given .1)
+    (c .before .before .before .before .before .before .before .before .before .if1 .left)
+    (c .before .before .before .before .before .before .before .write-within .ensures) (c .before .before .before .put-write .ensures) (c .armed-on .ensures)
 
 same-length-5 : tie.Need-same-length-5
 same-length-5 c = search needs
@@ -80,13 +98,18 @@ same-length-6 : tie.Need-same-length-6
 same-length-6 c = search needs
 
 returns-4 : tie.Need-returns-4
-returns-4 c = took-abort (c .before .before .before .before .before .before .before .before .before .before .before .before .before .before .pre) (c .before .before .before .before .before .before .before .before .before .event2 .given .1) (c .before .before .before .before .before .before .end-within .ensures) (c .before .before .put-abort .ensures)
+returns-4 c =
+    took-abort (c .before .before .before .before .before .before .before .before .before .before .before .before .before .before .pre)
+    (c .before .before .before .before .before .before .before .before .before .event2 .given .1)
+    (c .before .before .before .before .before .before .put-abort .ensures) (c .before .before .take-end-within .ensures)
 
 same-length-7 : tie.Need-same-length-7
 same-length-7 c = search needs
 
 returns-5 : tie.Need-returns-5
-returns-5 c = took-end (c .before .before .before .before .before .before .before .before .before .pre) (c .before .before .before .before .enum-told2 .given .1) (c .before .before .end-within2 .ensures)
+returns-5 c =
+    took-end (c .before .before .before .before .before .before .before .before .before .pre) (c .before .before .before .before .enum-told2 .given .1)
+    (c .before .before .take-end-within2 .ensures)
 
 pub take-within-spec : {M : Type 1} → statement M
 take-within-spec =
@@ -105,11 +128,11 @@ take-within-spec =
     armed-on-requires
     add-t36
     enum-known-event-2
-    end-within-requires
     put-abort-requires
-    add-t42
+    add-take-end-within
+    take-end-within-requires
     enum-told-2
-    end-within-requires-2
+    take-end-within-requires-2
     returns-2
     same-length-3
     same-length-4

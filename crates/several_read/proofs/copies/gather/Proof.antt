@@ -102,7 +102,8 @@ module _ {M : Type 1} (𝓤 : URA M) (H : Heap 𝓤) (A : Atoms 𝓤) (mem : Mem
   none-of : (r : Group) → ent 𝓤 (ensured 𝓤 H A none.ended (none.clauses 𝓤 H A mem run) tt tt tt r) (fact 𝓤 (r ≡ noGroup))
   none-of r = exE 𝓤 _ (λ ws. snd∗ 𝓤 (sem 𝓤 H A (lasts none.ended tt tt ws)) (fact 𝓤 (r ≡ noGroup)))
 
-  with-of : (g : Group) (w : Member) (r : Group) → ent 𝓤 (ensured 𝓤 H A with′.ended (with′.clauses 𝓤 H A mem run) tt (g, (w, tt)) tt r) (fact 𝓤 (r ≡ withMember g w))
+  with-of : (g : Group) (w : Member) (r : Group)
+      → ent 𝓤 (ensured 𝓤 H A with′.ended (with′.clauses 𝓤 H A mem run) tt (g, (w, tt)) tt r) (fact 𝓤 (r ≡ withMember g w))
   with-of g w r = exE 𝓤 _ (λ ws. snd∗ 𝓤 (sem 𝓤 H A (lasts with′.ended tt (g, (w, tt)) ws)) (fact 𝓤 (r ≡ withMember g w)))
 
   abbrev to-none : None .Ghost
@@ -120,7 +121,8 @@ module _ {M : Type 1} (𝓤 : URA M) (H : Heap 𝓤) (A : Atoms 𝓤) (mem : Mem
         qed W (‵ ftrue ∷ []) ∵ owned ! T.the-row (Is T.the-row) (LL.makes T.the-type T′.the-plain 𝓤 H A) w _ pw $ fjoin ! $
         owned ! G.the-row (Is G.the-row) (LL.makes G.the-type G′.the-plain 𝓤 H A) g _ pg $ fjoin ! $ nothing ! $ join ! $ frame ! $ done !
 
-module _ {M : Type 1} (𝓤 : URA M) (H : Heap 𝓤) (A : Atoms 𝓤) (W : Given 𝓤 H A) (mem : Memory → SProp 𝓤) (run : Routine → Fun 𝓤) (κ : Lft) (q : Share) (b o : ℕ) (γ : GName) (ys : List Member) (room : Room T.the-row (length ys)) where
+module _ {M : Type 1} (𝓤 : URA M) (H : Heap 𝓤) (A : Atoms 𝓤) (W : Given 𝓤 H A) (mem : Memory → SProp 𝓤) (run : Routine → Fun 𝓤) (κ : Lft) (q : Share) (b o : ℕ)
+    (γ : GName) (ys : List Member) (room : Room T.the-row (length ys)) where
   abbrev n : ℕ
   n = length ys
 
@@ -139,7 +141,9 @@ module _ {M : Type 1} (𝓤 : URA M) (H : Heap 𝓤) (A : Atoms 𝓤) (W : Given
   exits : (g : Group) → (g ≡ gathered noGroup ys) × AllBytes ys → IsGroup g → ent 𝓤 (⋆ 𝓤 H A (‵ (flft κ q) ∷ ‵ Own ∷ [])) (Post (group-val g))
   exits g said g-is =
       qed W (‵ (flft κ q) ∷ ‵ Own ∷ []) ∵
-      suffices ! _ (ends-at 𝓤 H A gather.ended stayed (gather.clauses 𝓤 H A mem run) W (((κ, tt), (q, tt), tt, (x, tt), (s₁ ∷ [], tt)), tt) (group-val g) g (tt, tt) (tt, tt)) $ says ! said $
+      suffices ! _
+      (ends-at 𝓤 H A gather.ended stayed (gather.clauses 𝓤 H A mem run) W (((κ, tt), (q, tt), tt, (x, tt), (s₁ ∷ [], tt)), tt) (group-val g) g (tt, tt)
+      (tt, tt)) $ says ! said $
       nothing ! $ move ! (1 ∷ 0 ∷ []) $ join ! $ frame ! $ nothing ! $ move ! (1 ∷ 0 ∷ []) $ fjoin ! $
       owned ! G.the-row (Is G.the-row) (LL.makes G.the-type G′.the-plain 𝓤 H A) g _ g-is $ move ! (1 ∷ 0 ∷ []) $ done !
 
@@ -154,7 +158,8 @@ module _ {M : Type 1} (𝓤 : URA M) (H : Heap 𝓤) (A : Atoms 𝓤) (W : Given
   Nearer-wf : WellFounded Nearer
   Nearer-wf = InvImage·wf (λ (s : State). n - s .0) (Nat·lt-wfRel .wf)
 
-  module _ (𝓣 : Tables 𝓤 H) (fm : FmC 𝓤 H (W .laws) (𝓣 .C)) (known-none : Triple 𝓤 (𝓣 .C #none) (None 𝓤 H A mem run)) (known-with : Triple 𝓤 (𝓣 .C #with) (With 𝓤 H A mem run)) where
+  module _ (𝓣 : Tables 𝓤 H) (fm : FmC 𝓤 H (W .laws) (𝓣 .C)) (known-none : Triple 𝓤 (𝓣 .C #none) (None 𝓤 H A mem run))
+      (known-with : Triple 𝓤 (𝓣 .C #with) (With 𝓤 H A mem run)) where
     abbrev C : Calls 𝓤 H
     C = 𝓣 .C
 
@@ -186,7 +191,8 @@ module _ {M : Type 1} (𝓤 : URA M) (H : Heap 𝓤) (A : Atoms 𝓤) (W : Given
 
         -- a turn ends nearer to the end of the list, or the loop is left and the rest of the body runs
         abbrev Turned : State → Out → SProp 𝓤
-        Turned s = afterTurn 𝓤 H (Below 𝓤 H A Nearer At s) (afterBlock 𝓤 H (afterSeq 𝓤 H (Wp 𝓤 H C Λ En body.t-4 (atReturn 𝓤 H En Post)) (atReturn 𝓤 H En Post)))
+        Turned s =
+            afterTurn 𝓤 H (Below 𝓤 H A Nearer At s) (afterBlock 𝓤 H (afterSeq 𝓤 H (Wp 𝓤 H C Λ En body.t-4 (atReturn 𝓤 H En Post)) (atReturn 𝓤 H En Post)))
 
         -- a turn that copies one chip
         module _ (i : ℕ) (g : Group) (reached : Reached ys i g) (g-is : IsGroup g) (e : ltb i n ≡ true) where
@@ -205,26 +211,39 @@ module _ {M : Type 1} (𝓤 : URA M) (H : Heap 𝓤) (A : Atoms 𝓤) (W : Given
           more : Sq W (At (i, g, reached, g-is)) (runs C Λ En body.turn-1 (anyQ (Turned (i, g, reached, g-is))))
           unfolding afterTurn
           more =
-              assigns ! (of-opd ! (load ! (from ! (fld ! refl (stop !))) (look-in ! 15 (sub ! 1 refl (whole !))))) (from ! (stop !)) (init ! 7 refl (tt, record { fits = room .0 })) $
-              assigns ! (bin ! (load ! (from ! (stop !)) (look ! 11 refl)) (load ! (from ! (stop !)) (look ! 7 refl)) tt) (from ! (stop !)) (init ! 5 refl (tt, tt)) $
+              assigns ! (of-opd ! (load ! (from ! (fld ! refl (stop !))) (look-in ! 15 (sub ! 1 refl (whole !))))) (from ! (stop !))
+              (init ! 7 refl (tt, record { fits = room .0 })) $
+              assigns ! (bin ! (load ! (from ! (stop !)) (look ! 11 refl)) (load ! (from ! (stop !)) (look ! 7 refl)) tt) (from ! (stop !))
+              (init ! 5 refl (tt, tt)) $
               rewrite ! 5 (λ (t : Bool). ‵ (fat fullShare tyBool l₆ 0 (vbool t))) e refl $ stays ! (load ! (from ! (stop !)) (look ! 5 refl)) $
-              assigns ! (bin ! (load ! (from ! (stop !)) (look ! 11 refl)) (lit ! tt) (record { fits = fits })) (from ! (stop !)) (store ! 7 refl (tt, record { fits = fits })) $
-              assigns ! (bin ! (load ! (from ! (fld ! refl (stop !))) (look-in ! 15 (sub ! 0 refl (whole !)))) (load ! (from ! (stop !)) (look ! 7 refl)) tt) (from ! (stop !)) (init ! 3 refl (tt, tt)) $
+              assigns ! (bin ! (load ! (from ! (stop !)) (look ! 11 refl)) (lit ! tt) (record { fits = fits })) (from ! (stop !))
+              (store ! 7 refl (tt, record { fits = fits })) $
+              assigns ! (bin ! (load ! (from ! (fld ! refl (stop !))) (look-in ! 15 (sub ! 0 refl (whole !)))) (load ! (from ! (stop !)) (look ! 7 refl)) tt)
+              (from ! (stop !)) (init ! 3 refl (tt, tt)) $
               rewrite ! 3 (λ (k : ℕ). ‵ (fat fullShare tyPtr l₇ 0 (vptr b k))) (sym (place-is 56 o i)) refl $
               -- the chip is copied out of the row, which is two items longer meanwhile
               elem-out ! T.the-row (Is T.the-row) (shows 𝓤 H A T.the-row) member-vals (LL.tells T.the-type T′.the-laws) p ys i absent b o less (λ w-is.
-              assigns ! (of-opd ! (load ! (from ! (hop ! (look ! 5 refl) (stop !))) (look-raw ! 0 refl))) (from ! (stop !)) (init ! 3 refl (LL.lawful T.the-type T′.the-laws 𝓤 H A W .typed w _ w-is .0)) $
-              assigns ! (of-opd ! (load ! (from ! (stop !)) (look ! 3 refl))) (from ! (stop !)) (init ! 11 refl (LL.lawful T.the-type T′.the-laws 𝓤 H A W .typed w _ w-is .0)) $
+              assigns ! (of-opd ! (load ! (from ! (hop ! (look ! 5 refl) (stop !))) (look-raw ! 0 refl))) (from ! (stop !))
+              (init ! 3 refl (LL.lawful T.the-type T′.the-laws 𝓤 H A W .typed w _ w-is .0)) $
+              assigns ! (of-opd ! (load ! (from ! (stop !)) (look ! 3 refl))) (from ! (stop !))
+              (init ! 11 refl (LL.lawful T.the-type T′.the-laws 𝓤 H A W .typed w _ w-is .0)) $
               elem-back ! T.the-row p ys i absent (member-vals w) b o less $
               -- `with`: the group so far, and this chip. [what it asks; the row; …]
               nothing ! $ use1 W (raw (With 𝓤 H A mem run .pre (to-with 𝓤 H A mem run g w))) (goes-with 𝓤 H A mem run W g w g-is w-is) $
-              calls-at ! fm (With 𝓤 H A mem run) known-with (to-with 𝓤 H A mem run g w) (and-then ! (load ! (from ! (stop !)) (look ! 14 refl)) (and-then ! (load ! (from ! (stop !)) (look ! 10 refl)) (no-more !))) (λ v.
-              use1 W (later (some (λ (r : Group). (‵ ftrue ⊛ ‵ (G.the-row .own r (v ∷ []))) ⊛ raw (ensured 𝓤 H A with′.ended (with′.clauses 𝓤 H A mem run) tt (g, (w, tt)) tt r)))) (id⊢ 𝓤 _) $ await ! tt $ pick ! (λ h.
-              split ! $ move ! (1 ∷ []) $ use1 W (raw (fact 𝓤 (h ≡ withMember g w))) (with-of 𝓤 H A mem run g w h) $ heard ! (h ≡ withMember g w) (λ eh. split ! $ drop ! $
+              calls-at ! fm (With 𝓤 H A mem run) known-with (to-with 𝓤 H A mem run g w)
+              (and-then ! (load ! (from ! (stop !)) (look ! 14 refl)) (and-then ! (load ! (from ! (stop !)) (look ! 10 refl)) (no-more !))) (λ v.
+              use1 W
+              (later
+              (some
+              (λ (r : Group). (‵ ftrue ⊛ ‵ (G.the-row .own r (v ∷ []))) ⊛ raw (ensured 𝓤 H A with′.ended (with′.clauses 𝓤 H A mem run) tt (g, (w, tt)) tt r))))
+              (id⊢ 𝓤 _) $ await ! tt $ pick ! (λ h.
+              split ! $ move ! (1 ∷ []) $ use1 W (raw (fact 𝓤 (h ≡ withMember g w))) (with-of 𝓤 H A mem run g w h) $
+              heard ! (h ≡ withMember g w) (λ eh. split ! $ drop ! $
               peeks ! G.the-row (Is G.the-row) (shows 𝓤 H A G.the-row) h (v ∷ []) (λ h-is.
               land ! (from ! (stop !)) (store ! 14 refl (LL.lawful G.the-type G′.the-laws 𝓤 H A W .typed h _ h-is .0)) $ drop ! $
               rewrite ! 13 (λ (u : Val). ‵ (fat fullShare G′.mir l₂ 0 u)) (ap only (LL.tells G.the-type G′.the-laws h _ h-is)) refl $
-              assigns-last ! (bin ! (load ! (from ! (stop !)) (look ! 11 refl)) (lit ! tt) (record { fits = next-fits })) (from ! (stop !)) (store ! 11 refl (tt, record { fits = next-fits })) $
+              assigns-last ! (bin ! (load ! (from ! (stop !)) (look ! 11 refl)) (lit ! tt) (record { fits = next-fits })) (from ! (stop !))
+              (store ! 11 refl (tt, record { fits = next-fits })) $
               forget ! 1 refl $ forget ! 3 refl $ forget ! 5 refl $ forget ! 7 refl $ forget ! 9 refl $
               again ! Nearer At (i, g, reached, g-is) (i + 1, h, turned reached less h eh (session-small w _ w-is), spelt h v h-is) (omega (arith, less)))))))
 
@@ -232,14 +251,19 @@ module _ {M : Type 1} (𝓤 : URA M) (H : Heap 𝓤) (A : Atoms 𝓤) (W : Given
         ends : (s : State) → ltb (s .0) n ≡ false → Sq W (At s) (runs C Λ En body.turn-1 (anyQ (Turned s)))
         unfolding afterTurn
         ends s e =
-            assigns ! (of-opd ! (load ! (from ! (fld ! refl (stop !))) (look-in ! 15 (sub ! 1 refl (whole !))))) (from ! (stop !)) (init ! 7 refl (tt, record { fits = room .0 })) $
-            assigns ! (bin ! (load ! (from ! (stop !)) (look ! 11 refl)) (load ! (from ! (stop !)) (look ! 7 refl)) tt) (from ! (stop !)) (init ! 5 refl (tt, tt)) $
-            rewrite ! 5 (λ (t : Bool). ‵ (fat fullShare tyBool l₆ 0 (vbool t))) e refl $ leaves-loop ! (load ! (from ! (stop !)) (look ! 5 refl)) $ exec ! C Λ En body.t-4 (atRet En Post) $
-            assigns ! (of-opd ! (load ! (from ! (stop !)) (look ! 13 refl))) (from ! (stop !)) (init ! 17 refl (LL.lawful G.the-type G′.the-laws 𝓤 H A W .typed (s .1) _ (s .3) .0)) $
+            assigns ! (of-opd ! (load ! (from ! (fld ! refl (stop !))) (look-in ! 15 (sub ! 1 refl (whole !))))) (from ! (stop !))
+            (init ! 7 refl (tt, record { fits = room .0 })) $
+            assigns ! (bin ! (load ! (from ! (stop !)) (look ! 11 refl)) (load ! (from ! (stop !)) (look ! 7 refl)) tt) (from ! (stop !))
+            (init ! 5 refl (tt, tt)) $
+            rewrite ! 5 (λ (t : Bool). ‵ (fat fullShare tyBool l₆ 0 (vbool t))) e refl $ leaves-loop ! (load ! (from ! (stop !)) (look ! 5 refl)) $
+            exec ! C Λ En body.t-4 (atRet En Post) $
+            assigns ! (of-opd ! (load ! (from ! (stop !)) (look ! 13 refl))) (from ! (stop !))
+            (init ! 17 refl (LL.lawful G.the-type G′.the-laws 𝓤 H A W .typed (s .1) _ (s .3) .0)) $
             move ! (0 ∷ 19 ∷ []) $ shuts-slice ! tt T.the-row p ys b o $
             -- [the token; _8 1; …; _0 17; what the reference owns 19]
             returns ! (look ! 17 refl) $ forget ! 5 refl $ forget ! 7 refl $ forget ! 11 refl $ forget ! 13 refl $ forget ! 15 refl $ forget ! 17 refl $
-            move ! (17 ∷ 18 ∷ []) $ free1 ! $ move ! (15 ∷ 16 ∷ []) $ free1 ! $ move ! (13 ∷ 14 ∷ []) $ free1 ! $ move ! (11 ∷ 12 ∷ []) $ free1 ! $ move ! (9 ∷ 10 ∷ []) $ free1 ! $
+            move ! (17 ∷ 18 ∷ []) $ free1 ! $ move ! (15 ∷ 16 ∷ []) $ free1 ! $ move ! (13 ∷ 14 ∷ []) $ free1 ! $ move ! (11 ∷ 12 ∷ []) $ free1 ! $
+            move ! (9 ∷ 10 ∷ []) $ free1 ! $
             move ! (7 ∷ 8 ∷ []) $ free1 ! $ move ! (5 ∷ 6 ∷ []) $ free1 ! $ move ! (3 ∷ 4 ∷ []) $ free1 ! $ move ! (1 ∷ 2 ∷ []) $ free1 ! $ free0 ! $
             by ! (exits (s .1) (ended (s .2) (ltb-false (s .0) n e)) (s .3))
 
@@ -258,10 +282,12 @@ module _ {M : Type 1} (𝓤 : URA M) (H : Heap 𝓤) (A : Atoms 𝓤) (W : Given
       looked : (g : Group) → g ≡ noGroup → IsGroup g → Sq W (Locals (Placed 0) (Grouped g) Entered) (runs C Λ En body.t-3 (atRet En Post))
       looked g eg g-is =
           -- [_8 0; …; _0 16; the token 18; what the parameter owns 19]
-          move ! (19 ∷ []) $ fsplit ! $ use1 W (‵ Own ⊛ ‵ Own) (shr-slice-copy 𝓤 H A W (named 0) κ T.the-row .twice x (s₁ ∷ [])) $ split ! $ fsplit ! $ drop ! $ fsplit ! $ drop ! $
+          move ! (19 ∷ []) $ fsplit ! $ use1 W (‵ Own ⊛ ‵ Own) (shr-slice-copy 𝓤 H A W (named 0) κ T.the-row .twice x (s₁ ∷ [])) $ split ! $ fsplit ! $
+          drop ! $ fsplit ! $ drop ! $
           -- [the fractured borrow; what the reference owns; true; _8 3; …; _0 19; the token 21]
           move ! (21 ∷ []) $ split ! $ move ! (2 ∷ 0 ∷ []) $
-          looks-slice ! tt T.the-row (Is T.the-row) (shows 𝓤 H A T.the-row) member-vals (LL.tells T.the-type T′.the-laws) (LL.copy T.the-type T′.the-copy 𝓤 H A W) ys b o (λ p.
+          looks-slice ! tt T.the-row (Is T.the-row) (shows 𝓤 H A T.the-row) member-vals (LL.tells T.the-type T′.the-laws)
+          (LL.copy T.the-type T′.the-copy 𝓤 H A W) ys b o (λ p.
           -- [the row; the open borrow; the fractured one; true; what the reference owns; true; _8 6; …; _0 22]
           keep ! (0 ∷ 6 ∷ 7 ∷ 8 ∷ 9 ∷ 10 ∷ 11 ∷ 12 ∷ 13 ∷ 14 ∷ 15 ∷ 16 ∷ 17 ∷ 18 ∷ 19 ∷ 20 ∷ 21 ∷ 22 ∷ 23 ∷ 1 ∷ 4 ∷ []) $
           first ! $ blocks ! $ loops ! 𝓣 Nearer Nearer-wf (At p) (turns p) (0, g, subst (Reached ys 0) (sym eg) (begun ys), g-is))
@@ -271,7 +297,9 @@ module _ {M : Type 1} (𝓤 : URA M) (H : Heap 𝓤) (A : Atoms 𝓤) (W : Given
       begins =
           use0 W (raw (None 𝓤 H A mem run .pre (to-none 𝓤 H A mem run))) (goes-none 𝓤 H A mem run W) $
           calls-at ! fm (None 𝓤 H A mem run) known-none (to-none 𝓤 H A mem run) (no-more !) (λ v.
-          use1 W (later (some (λ (r : Group). (‵ ftrue ⊛ ‵ (G.the-row .own r (v ∷ []))) ⊛ raw (ensured 𝓤 H A none.ended (none.clauses 𝓤 H A mem run) tt tt tt r)))) (id⊢ 𝓤 _) $ await ! tt $ pick ! (λ g.
+          use1 W
+          (later (some (λ (r : Group). (‵ ftrue ⊛ ‵ (G.the-row .own r (v ∷ []))) ⊛ raw (ensured 𝓤 H A none.ended (none.clauses 𝓤 H A mem run) tt tt tt r))))
+          (id⊢ 𝓤 _) $ await ! tt $ pick ! (λ g.
           split ! $ move ! (1 ∷ []) $ use1 W (raw (fact 𝓤 (g ≡ noGroup))) (none-of 𝓤 H A mem run g) $ heard ! (g ≡ noGroup) (λ eg. split ! $ drop ! $
           peeks ! G.the-row (Is G.the-row) (shows 𝓤 H A G.the-row) g (v ∷ []) (λ g-is.
           land ! (from ! (stop !)) (init ! 13 refl (LL.lawful G.the-type G′.the-laws 𝓤 H A W .typed g _ g-is .0)) $ drop ! $
@@ -282,7 +310,9 @@ module _ {M : Type 1} (𝓤 : URA M) (H : Heap 𝓤) (A : Atoms 𝓤) (W : Given
     walk : ent 𝓤 (onEntry 𝓤 H A gather.signature (κ, tt) (q, tt) (x, tt) (s₁ ∷ [], tt)) (WpFn 𝓤 H C Λ code.function (s₁ ∷ []) Post)
     walk =
         qed W ((‵ (flft κ q) ⊛ ‵ ftrue) ∷ ‵ (owns (ShrSlice (named 0) κ T.the-row ∷ []) (x, tt) (s₁ ∷ [], tt)) ∷ []) ∵ enter ! C Λ code.function (s₁ ∷ []) _ $
-        alloc1 ! (λ l₀. alloc1 ! (λ l₁. alloc1 ! (λ l₂. alloc1 ! (λ l₃. alloc1 ! (λ l₄. alloc1 ! (λ l₅. alloc1 ! (λ l₆. alloc1 ! (λ l₇. alloc1 ! (λ l₈. alloc0 ! $ params1 ! $
+        alloc1 !
+        (λ l₀. alloc1 !
+        (λ l₁. alloc1 ! (λ l₂. alloc1 ! (λ l₃. alloc1 ! (λ l₄. alloc1 ! (λ l₅. alloc1 ! (λ l₆. alloc1 ! (λ l₇. alloc1 ! (λ l₈. alloc0 ! $ params1 ! $
         pass1 ! (init ! 14 refl (tt, (tt, (record { fits = room .0 }, tt)))) $ pass0 ! $ begins l₀ l₁ l₂ l₃ l₄ l₅ l₆ l₇ l₈)))))))))
 
 module _ {M : Type 1} (𝓤 : URA M) (H : Heap 𝓤) (A : Atoms 𝓤) (W : Given 𝓤 H A) (mem : Memory → SProp 𝓤) (run : Routine → Fun 𝓤) where
@@ -291,9 +321,11 @@ module _ {M : Type 1} (𝓤 : URA M) (H : Heap 𝓤) (A : Atoms 𝓤) (W : Given
   gather-meets 𝓣 known-none known-with =
       walk-meets 𝓤 H A gather.ended stayed W (goes-none-slice 𝓤 H A W 1 (0 ∷ []) tt (plain (λ _. T.the-row)) yes, tt) (gather.clauses 𝓤 H A mem run)
       (WpFn 𝓤 H (𝓣 .C) (𝓣 .Λ) code.function) (WpFn-mono 𝓤 H (W .laws) 𝓣 code.function)
-      (walked 𝓤 H A gather.ended stayed (gather.clauses 𝓤 H A mem run) (WpFn 𝓤 H (𝓣 .C) (𝓣 .Λ) code.function) (λ κs. (slice-vals, tt)) (λ κs. (shr-slice-tells (named 0) (κs .0) T.the-row, tt))
+      (walked 𝓤 H A gather.ended stayed (gather.clauses 𝓤 H A mem run) (WpFn 𝓤 H (𝓣 .C) (𝓣 .Λ) code.function) (λ κs. (slice-vals, tt))
+      (λ κs. (shr-slice-tells (named 0) (κs .0) T.the-row, tt))
       (λ κs qs bounds a g are. via 𝓤 _ (fst∗ 𝓤 _ (emp 𝓤))
-      (walk 𝓤 H A W mem run (κs .0) (qs .0) (a .0 .ptr .0) (a .0 .ptr .1) (a .0 .name) (a .0 .now) (are .0 .0 .1) 𝓣 (fmOf 𝓤 H (W .laws) 𝓣) known-none known-with)))
+      (walk 𝓤 H A W mem run (κs .0) (qs .0) (a .0 .ptr .0) (a .0 .ptr .1) (a .0 .name) (a .0 .now) (are .0 .0 .1) 𝓣
+      (fmOf 𝓤 H (W .laws) 𝓣) known-none known-with)))
 
 pub gather-spec : {M : Type 1} → stated.statement M
 unfolding code.routine tablesOf

@@ -27,7 +27,13 @@ returns : tie.Need-returns
 unfolding soundMember
 returns c =
     let are = c .before .before .before .before .before .before in
-    rw (sym (are .are-session .ensures) ∙ c .before .before .before .before .before .if1 .taken, c .before .sound .ensures, c .mark-good .ensures, c .before .before .before .session-of .ensures)
+    rw (
+      sym (are .are-session .ensures)
+          ∙ c .before .before .before .before .before .if1 .taken,
+      c .before .sound .ensures,
+      c .mark-good .ensures,
+      c .before .before .before .session-of .ensures,
+    )
 
 returns-2 : tie.Need-returns-2
 unfolding soundMember

@@ -41,7 +41,8 @@ loop-again : tie.Need-loop-again Inv-loop μ-loop
 loop-again c =
     let a = c .before .before .before .before .before .args in
     let at = c .before .before .before .before .loop in
-    apart-more _ (rangesOf (chipsOf (a .group))) (at .k) (at .good) (c .apart .result) (rangeOf (c .before .range-at .result)) (omega (arith, two-each (chipsOf (a .group))))
+    apart-more _ (rangesOf (chipsOf (a .group))) (at .k) (at .good) (c .apart .result) (rangeOf (c .before .range-at .result))
+    (omega (arith, two-each (chipsOf (a .group))))
     (c .apart .ensures) (c .before .range-at .ensures) (at .inv)
 
 returns : tie.Need-returns Inv-loop μ-loop

@@ -37,7 +37,8 @@ unfolding rangesFit
 loop-again c =
     let s = c .before .before .before .before .before in
     let at = c .before .before .before .before .loop in
-    chip-more (rangesFit (s .args .length)) (s .args .t1) (s .pre) (at .i) (at .good) (λ w. eqb (w .«active_length») (s .args .length) && eqb (w .«buffer_length») (s .args .length)) _
+    chip-more (rangesFit (s .args .length)) (s .args .t1) (s .pre) (at .i) (at .good)
+    (λ w. eqb (w .«active_length») (s .args .length) && eqb (w .«buffer_length») (s .args .length)) _
     (λ w ws. refl) (c .before .before .before .loop-test .taken) refl (at .inv)
 
 returns : tie.Need-returns Inv-loop μ-loop

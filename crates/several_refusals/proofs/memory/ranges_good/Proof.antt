@@ -46,7 +46,8 @@ loop-again : tie.Need-loop-again Inv-loop μ-loop
 loop-again c =
     let a = c .before .before .before .before .before .before .args in
     let at = c .before .before .before .before .before .loop in
-    range-more (a .size) (rangesOf (chipsOf (a .group))) (at .k) (at .good) (c .before .ends-by .result) (c .apart-from .result) (rangeOf (c .before .before .range-at .result))
+    range-more (a .size) (rangesOf (chipsOf (a .group))) (at .k) (at .good) (c .before .ends-by .result) (c .apart-from .result)
+    (rangeOf (c .before .before .range-at .result))
     (omega (arith, two-each (chipsOf (a .group)))) (c .before .ends-by .ensures) (c .apart-from .ensures) (c .before .before .range-at .ensures) (at .inv)
 
 returns : tie.Need-returns Inv-loop μ-loop

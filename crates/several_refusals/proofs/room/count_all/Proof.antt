@@ -41,7 +41,12 @@ add-count : tie.Need-add-count Inv-loop μ-loop
 add-count c =
     let s = c .before .before .before .before .before .before in
     let at = c .before .before .before .before .loop in
-    omega (arith, few-records (s .args .t1) (s .args .samples .now) (s .pre), more-chips (s .args .t1) (s .args .samples .now) (s .pre) (at .i) (c .before .before .before .loop-test .taken) (at .count) (c .before .port-of .ensures) (c .count-records .ensures) (at .inv))
+    omega (
+      arith,
+      few-records (s .args .t1) (s .args .samples .now) (s .pre),
+      more-chips (s .args .t1) (s .args .samples .now) (s .pre) (at .i)
+          (c .before .before .before .loop-test .taken) (at .count) (c .before .port-of .ensures) (c .count-records .ensures) (at .inv),
+    )
 
 add-i : tie.Need-add-i Inv-loop μ-loop
 add-i c = omega (arith, c .before .before .before .before .before .before .pre .listed)
@@ -53,7 +58,8 @@ loop-again : tie.Need-loop-again Inv-loop μ-loop
 loop-again c =
     let s = c .before .before .before .before .before .before in
     let at = c .before .before .before .before .loop in
-    more-chips (s .args .t1) (s .args .samples .now) (s .pre) (at .i) (c .before .before .before .loop-test .taken) (at .count) (c .before .port-of .ensures) (c .count-records .ensures) (at .inv)
+    more-chips (s .args .t1) (s .args .samples .now) (s .pre) (at .i) (c .before .before .before .loop-test .taken) (at .count) (c .before .port-of .ensures)
+    (c .count-records .ensures) (at .inv)
 
 returns : tie.Need-returns Inv-loop μ-loop
 returns c =

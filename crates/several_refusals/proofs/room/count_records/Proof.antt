@@ -36,8 +36,11 @@ shared-slice-read-sees-2 c = omega arith
 
 sees-requires : tie.Need-sees-requires Inv-loop μ-loop
 sees-requires c κs =
-    let s = c .before .before .before .before .before in
-    (lines-small (s .pre .chips) (s .args .samples .now) (c .before .before .before .loop .j) (s .pre .good) (c .before .before .loop-test .taken), s .pre .number)
+    let s = c .before .before .before .before .before in (
+      lines-small (s .pre .chips) (s .args .samples .now) (c .before .before .before .loop .j) (s .pre .good)
+          (c .before .before .loop-test .taken),
+      s .pre .number,
+    )
 
 event-requires : tie.Need-event-requires Inv-loop μ-loop
 event-requires c κs = fit-sound Newer _ (c .before .before .before .before .loop .inv .sound)
@@ -48,7 +51,11 @@ records-in-requires c κs = search needs
 add-count : tie.Need-add-count Inv-loop μ-loop
 add-count c =
     let at = c .before .before .before .before .before .before .loop in
-    omega (arith, counted-fits (c .before .before .before .before .before .loop-test .taken) (at .inv) (c .before .before .sees .ensures) (c .before .event .ensures) (c .records-in .ensures))
+    omega (
+      arith,
+      counted-fits (c .before .before .before .before .before .loop-test .taken) (at .inv) (c .before .before .sees .ensures) (c .before .event .ensures)
+          (c .records-in .ensures),
+    )
 
 step-requires : tie.Need-step-requires Inv-loop μ-loop
 step-requires c κs = fit-sound Newer _ (c .before .before .before .before .before .before .loop .inv .sound)
@@ -62,7 +69,8 @@ loop-less c = omega arith
 loop-again : tie.Need-loop-again Inv-loop μ-loop
 loop-again c =
     let at = c .before .before .before .before .before .before .before .loop in
-    counted-more (c .before .before .before .before .before .before .loop-test .taken) (at .inv) (c .before .before .before .sees .ensures) (c .before .before .event .ensures)
+    counted-more (c .before .before .before .before .before .before .loop-test .taken) (at .inv) (c .before .before .before .sees .ensures)
+    (c .before .before .event .ensures)
     (c .before .records-in .ensures) (c .step .ensures)
 
 returns : tie.Need-returns Inv-loop μ-loop

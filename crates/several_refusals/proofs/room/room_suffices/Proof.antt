@@ -23,7 +23,9 @@ mul-if1-2 c = let s = c .before .before in omega (arith, bound-fits (s .args .gr
 returns : tie.Need-returns
 returns c =
     let s = c .before .before .before in
-    sym (le-leb (severalRecordSize * countFrom 0 (chipsOf (s .args .group)) (samplesIn (s .args .samples .now))) (s .args .room) (omega (arith, bounded (s .args .group) (s .args .samples .now) (s .pre), c .if1 .taken)))
+    sym
+    (le-leb (severalRecordSize * countFrom 0 (chipsOf (s .args .group)) (samplesIn (s .args .samples .now))) (s .args .room)
+    (omega (arith, bounded (s .args .group) (s .args .samples .now) (s .pre), c .if1 .taken)))
 
 count-all-requires : tie.Need-count-all-requires
 count-all-requires c κs = search needs

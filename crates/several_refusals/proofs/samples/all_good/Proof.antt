@@ -51,7 +51,8 @@ loop-again c =
     let s = c .before .before .before .before .before .before .before in
     let at = c .before .before .before .before .loop in
     let least = c .before .before .before .before .before .least-selects .ensures in
-    good-more (s .args .chips) (s .args .samples .now) (at .j) (at .good) _ (c .before .before .before .loop-test .taken) (rw (least, c .lines-good .ensures)) (at .inv)
+    good-more (s .args .chips) (s .args .samples .now) (at .j) (at .good) _ (c .before .before .before .loop-test .taken) (rw (least, c .lines-good .ensures))
+    (at .inv)
 
 returns : tie.Need-returns Inv-loop μ-loop
 returns c =

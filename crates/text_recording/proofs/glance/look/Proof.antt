@@ -37,7 +37,8 @@ returns-2 c =
     let a = c .before .before .before .before .before .before .before .before .args in
     let l = c .before .before .before .before .before .loop in
     rw (c .before .before .falls .ensures)
-    (look-found (a .samples .now) (l .last) (l .i) (l .fell) (l .inv .1) (c .before .before .before .before .loop-test .taken) (sym (c .before .rises .ensures) ∙ c .if2 .taken)
+    (look-found (a .samples .now) (l .last) (l .i) (l .fell) (l .inv .1) (c .before .before .before .before .loop-test .taken)
+    (sym (c .before .rises .ensures) ∙ c .if2 .taken)
     ∙ ap (λ (s : Seen). seenOf s (a .samples .now)) (unrisen (a .seen) (c .before .before .before .before .before .before .if1 .left)))
 
 add-i : tie.Need-add-i Inv-loop μ-loop
@@ -52,7 +53,8 @@ loop-again c =
     let l = c .before .before .before .before .before .loop in (
       omega arith,
       rw (c .before .before .falls .ensures)
-          (look-more (a .samples .now) (l .last) (l .i) (l .fell) (l .inv .1) (c .before .before .before .before .loop-test .taken) (sym (c .before .rises .ensures) ∙ c .if2 .left)),
+          (look-more (a .samples .now) (l .last) (l .i) (l .fell) (l .inv .1) (c .before .before .before .before .loop-test .taken)
+          (sym (c .before .rises .ensures) ∙ c .if2 .left)),
     )
 
 returns-3 : tie.Need-returns-3 Inv-loop μ-loop
