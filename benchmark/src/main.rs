@@ -64,6 +64,6 @@ fn call(name: &str, side: &str) {
         "Second" => Side::Second,
         _ => panic!("{USAGE}"),
     };
-    let work = work(name).expect(USAGE);
+    let work = work(name, 1).expect(USAGE);
     work.call(side, &mut work.space());
 }

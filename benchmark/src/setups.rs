@@ -98,7 +98,8 @@ pub fn measure(counts: bool) -> String {
          |---|---|---|---|---|---|\n",
     );
     for (setup, each, bytes) in SETUPS {
-        let [setup, each] = [setup, each].map(|name| work(name).expect("each name has its work"));
+        let [setup, each] =
+            [setup, each].map(|name| work(name, 0).expect("each name has its work"));
         let (mut joined, mut apart) = (setup.space(), each.space());
         let times = alternate(
             ROUNDS,

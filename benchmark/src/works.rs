@@ -112,23 +112,24 @@ enum Job {
 
 impl Work {
     /// Reading with room that is sure to suffice.
-    fn read(name: &'static str, limit: Limit, record: impl Fn(u64) -> Vec<u8>) -> Self {
-        let job = Job::Read { top: None, map: inputs::map(REGISTERS), recordings: roomy(record) };
+    fn read(name: &'static str, limit: Limit, recordings: Vec<Recording>) -> Self {
+        let job = Job::Read { top: None, map: inputs::map(REGISTERS), recordings };
         Work { name, limit, units: SAMPLES, job }
     }
 
     /// The same by an older chip.
-    fn read_older(name: &'static str, record: impl Fn(u64) -> Vec<u8>) -> Self {
-        let job = Job::Read { top: Some(TOP), map: inputs::older_map(), recordings: roomy(record) };
+    fn read_older(name: &'static str, recordings: Vec<Recording>) -> Self {
+        let job = Job::Read { top: Some(TOP), map: inputs::older_map(), recordings };
         Work { name, limit: OLDER, units: SAMPLES, job }
     }
 
     /// Reading with the room that the records take and no more, so that they
     /// have to be counted first.
-    fn read_counted(name: &'static str, limit: Limit, record: impl Fn(u64) -> Vec<u8>) -> Self {
+    fn read_counted(name: &'static str, limit: Limit, mut recordings: Vec<Recording>) -> Self {
         let map = inputs::map(REGISTERS);
-        let recordings =
-            recorded(record, |samples| RECORD * inputs::records(&map, samples)).collect();
+        for recording in &mut recordings {
+            recording.room = RECORD * inputs::records(&map, &recording.samples);
+        }
         Work { name, limit, units: SAMPLES, job: Job::Read { top: None, map, recordings } }
     }
 
@@ -245,21 +246,10 @@ impl Work {
     }
 }
 
-/// The recordings of a work, with room by their samples.
-fn recorded(
-    record: impl Fn(u64) -> Vec<u8>,
-    room: impl Fn(&[u8]) -> usize,
-) -> impl Iterator<Item = Recording> {
-    (0..RECORDINGS).map(move |number| {
-        let samples = record(number);
-        let room = room(&samples);
-        Recording { samples, room }
-    })
-}
-
-/// The same with room that is sure to suffice.
-fn roomy(record: impl Fn(u64) -> Vec<u8>) -> Vec<Recording> {
-    recorded(record, |samples| RECORD * samples.len().div_ceil(3)).collect()
+/// So many recordings, each with room that is sure to suffice.
+fn recorded(recordings: u64, record: impl Fn(u64) -> Vec<u8>) -> Vec<Recording> {
+    let roomy = |samples: Vec<u8>| Recording { room: RECORD * samples.len().div_ceil(3), samples };
+    (0..recordings).map(|number| roomy(record(number))).collect()
 }
 
 fn order(settings: u64, data: &[u8]) -> Order<'_> {
@@ -303,18 +293,18 @@ const NAMES: [&str; 23] = [
 pub fn works() -> impl Iterator<Item = Work> {
     let often = OFTEN.iter().map(|row| row.0).chain(UNEVEN.iter().map(|row| row.0));
     let names = NAMES[..4].iter().copied().chain(often).chain(NAMES[4..].iter().copied());
-    names.map(|name| work(name).expect("each name has its work"))
+    names.map(|name| work(name, RECORDINGS).expect("each name has its work"))
 }
 
 /// The work of this name on recordings sampled more often than their clock.
-fn often(name: &str) -> Option<Work> {
+fn often(name: &str, recordings: u64) -> Option<Work> {
     if let Some(&(name, times, goal)) = OFTEN.iter().find(|row| row.0 == name) {
         let record = |number| inputs::oversampled(number, times, SAMPLES);
-        return Some(Work::read(name, Limit::near(goal), record));
+        return Some(Work::read(name, Limit::near(goal), recorded(recordings, record)));
     }
     let &(name, least, most, goal) = UNEVEN.iter().find(|row| row.0 == name)?;
     let record = |number| inputs::uneven(number, least, most, SAMPLES);
-    Some(Work::read(name, Limit::near(goal), record))
+    Some(Work::read(name, Limit::near(goal), recorded(recordings, record)))
 }
 
 /// The work of this name that sends a setup.
@@ -324,26 +314,30 @@ fn setup(name: &str) -> Option<Work> {
     Some(Work::setup(if is_joined { joined } else { each }, bytes, is_joined))
 }
 
-/// The work of this name.
-pub fn work(name: &str) -> Option<Work> {
-    if let Some(work) = often(name).or_else(|| setup(name)) {
+/// The work of this name, with so many recordings if it reads.
+pub fn work(name: &str, recordings: u64) -> Option<Work> {
+    if let Some(work) = often(name, recordings).or_else(|| setup(name)) {
         return Some(work);
     }
     let name = *NAMES.iter().find(|known| **known == name)?;
     let frames = Limit { most: 0.9, stretch: 0.7 };
     let noise = Limit { most: 1.5, stretch: 0.75 };
     let counted = Limit { most: 2.0, stretch: 0.75 };
-    let dense = |settings| move |number| inputs::dense(number, settings, SAMPLES);
-    let older = |least, most| move |number| inputs::older(number, least, most, SAMPLES);
-    let random = |number| inputs::noise(number, SAMPLES);
+    let dense = |settings| recorded(recordings, |number| inputs::dense(number, settings, SAMPLES));
+    let mixed = || recorded(recordings, |number| inputs::mixed(number, SAMPLES));
+    let random = || recorded(recordings, |number| inputs::noise(number, SAMPLES));
+    let older =
+        |least, most| recorded(recordings, |number| inputs::older(number, least, most, SAMPLES));
+    let older_ten_times =
+        || recorded(recordings, |number| inputs::older_oversampled(number, 10, SAMPLES));
     Some(match name {
         "read-dense" => Work::read(name, frames, dense(0)),
         "read-dense-lsb" => Work::read(name, frames, dense(1)),
         "read-single" => Work::read(name, frames, dense(4)),
-        "read-mixed" => Work::read(name, frames, |number| inputs::mixed(number, SAMPLES)),
-        "read-random" => Work::read(name, noise, random),
+        "read-mixed" => Work::read(name, frames, mixed()),
+        "read-random" => Work::read(name, noise, random()),
         "counted-dense" => Work::read_counted(name, counted, dense(0)),
-        "counted-random" => Work::read_counted(name, counted, random),
+        "counted-random" => Work::read_counted(name, counted, random()),
         "send-msb" => Work::send(name, 0),
         "send-lsb" => Work::send(name, 1),
         "send-single-msb" => Work::send(name, 4),
@@ -351,10 +345,8 @@ pub fn work(name: &str) -> Option<Work> {
         "map-test" => Work::test(MOST_REGISTERS),
         "older-dense" => Work::read_older(name, older(4, 16)),
         "older-counted" => Work::read_older(name, older(1, 3)),
-        "older-ten-times" => {
-            Work::read_older(name, |number| inputs::older_oversampled(number, 10, SAMPLES))
-        }
-        "older-random" => Work::read_older(name, random),
+        "older-ten-times" => Work::read_older(name, older_ten_times()),
+        "older-random" => Work::read_older(name, random()),
         "older-send-msb" => Work::send_older(name, 0),
         "older-send-lsb" => Work::send_older(name, 1),
         "several-one" => Work::several(name, 0b0000_1000),

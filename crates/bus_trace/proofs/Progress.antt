@@ -28,7 +28,6 @@ use Rattle.bus_words.specs.Lanes.{clockOf}
 use Rattle.bus_trace.specs.Path.{Quiet, still, more}
 use Rattle.bus_trace.specs.Progress.{withProgress, lastOf, sourceLine, SoundProgress, Reached}
 use Rattle.bus_trace.specs.Scan.{progress, levelAfter}
-use Rattle.bus_trace.proofs.Paths.{paths-joined}
 
 -- the levels of a sample, by its two lowest bits
 pub csb-low : (x : ℕ) → x % 2 ≡ 0 → csbOf x ≡ false
@@ -231,12 +230,3 @@ module _ (c : Chip) where
   room-for-bit {s} {p} a =
       let f = fit-sound c (withProgress s p) (a .sound) in
       (few-bits (s .phase) (p .bits) (f .unfinished), f .small)
-
-  -- from a progress that is reached to another
-  pub reached-join : {xs : List ℕ} {s : Port} {i : ℕ} {p q : Progress} → Reached c xs s i p → Reached c xs (withProgress s p) (p .at) q → Reached c xs s i q
-  reached-join r t = record {
-    ahead = omega (arith, r .ahead, t .ahead);
-    within = t .within;
-    good = record { even = t .good .even; level = t .good .level; sound = t .good .sound };
-    path = paths-joined (r .path) (t .path);
-  }

@@ -1,30 +1,31 @@
 -- Laws of a write: an effect on a byte is within the banks, and a write keeps their sizes.
 use mathlib.Core.Path.{_≡_, refl, sym, _∙_, ap}
-use mathlib.Core.Bool.{Bool, true, false, cond, _&&_, xor, false≢true}
+use mathlib.Core.Bool.{Bool, true, false, cond, _&&_, _||_, xor, false≢true}
 use mathlib.Core.List.{List}
 use Prim.Native.Nat.{ℕ, _<_}
 use native.Mathlib.Omega.{arith}
 use borrow.Author.Tests.{eqb-true}
-use lib.ListN.{length, getD, length-set}
-use lib.Seq.{getD-set-same}
+use lib.ListN.{length, getD, set, length-set}
+use lib.Seq.{getD-set-same, set-getD}
 use lib.Bits.{bitXor}
 use lib.Dec.{eqb}
 use Rattle.base_bits.specs.Bits.{bitAt, merged}
 use Rattle.base_bits.proofs.Cases.{each}
 use Rattle.base_bits.proofs.Laws.{merged-bit, xor-bit}
+use Rattle.map_format.specs.declared.Entry.{Entry}
 use Rattle.map_format.specs.Format.{registerAt, plain, buffered, control}
 use Rattle.base_card.specs.Card.{isMirror}
 use Rattle.base_chip.specs.declared.Chip.{Chip}
 use Rattle.base_chip.specs.Chip.{isNewer}
 use Rattle.bus_settings.specs.declared.Settings.{Settings}
 use Rattle.bus_settings.specs.Settings.{resets, transfersAt}
-use Rattle.reg_banks.specs.Banks.{Banks, Mapped}
+use Rattle.reg_banks.specs.Banks.{Banks, banks, Mapped}
 use Rattle.reg_banks.proofs.Laws.{mapped-defaults, mapped-transfer, in-banks}
 use Rattle.reg_write.specs.declared.Stages.{Stages}
 use Rattle.reg_write.specs.declared.Effect.{Effect}
 use Rattle.reg_write.specs.declared.Effect.the-variants.{Nothing, Active, Buffer, Control, Transfer, Reset, Ignored}
-use Rattle.reg_write.specs.Effect.{controlEffect, movedBits, effectOf}
-use Rattle.reg_write.specs.Write.{effectAt, applied, onByte, touchesOn, writeBanks, writtenBy, writtenOf}
+use Rattle.reg_write.specs.Effect.{controlEffect, movedBits, effectOf, byteEffect}
+use Rattle.reg_write.specs.Write.{stagesAt, effectAt, applied, onByte, touchesOn, writeBanks, written, writtenBy, writtenOf, WroteByte}
 use Rattle.reg_write.specs.Rise.{movesAtRise, armedBy, armedOn, riseBanks}
 
 -- ---- no effect on a control register is on a byte
@@ -122,3 +123,38 @@ touches-number c t a v Control = refl
 touches-number c t a v Transfer = refl
 touches-number c t a v Reset = refl
 touches-number c t a v Ignored = refl
+
+-- ---- a byte written to one of two stages
+
+-- of two tests that don't hold together one holds
+one-holds : (p q : Bool) (x y z : Effect) → (p || q) ≡ true → (p ≡ true → q ≡ false) → cond p x (cond q y z) ≡ cond q y x
+one-holds true true x y z h apart = absurd (false≢true (sym (apart refl)))
+one-holds true false x y z h apart = refl
+one-holds false true x y z h apart = refl
+one-holds false false x y z h apart = absurd (false≢true h)
+
+-- the effect on a register of kind 2 or 3
+pub byte-effect : (c : Chip) (e : Entry) (s : Stages) (a v : ℕ) → (eqb (e .kind) plain || eqb (e .kind) buffered) ≡ true
+    → effectOf c e s a v ≡ byteEffect (eqb (e .kind) buffered) (e .mask) s v
+unfolding effectOf
+byte-effect c e s a v h =
+    one-holds (eqb (e .kind) plain) (eqb (e .kind) buffered) _ _ _ h (λ t. ap (λ (k : ℕ). eqb k buffered) (eqb-true (e .kind) plain t))
+
+-- one stage takes the byte, and the other what it had
+pub wrote-byte : (b : Banks) (at mask v : ℕ) (kind3 : Bool) {s : Stages} {old byte x y e : ℕ} → s ≡ stagesAt b at → old ≡ cond kind3 (s .buffer) (s .active)
+    → byte ≡ merged 8 old v mask → x ≡ cond kind3 (s .active) byte → y ≡ cond kind3 byte (s .buffer) → e ≡ cond kind3 2 1
+    → WroteByte b at kind3 mask v (written byte e (bitXor old byte)) (banks (set (b .active) at x) (set (b .buffer) at y))
+unfolding applied writtenBy
+wrote-byte b at mask v true es eo eb ex ey ee =
+    rw (ee, ey, ex, eb, eo, es)
+    (record { answer-is = λ c t a. refl; banks-after = λ m. ap (λ (l : List ℕ). banks l (set (b .buffer) at (merged 8 (getD (b .buffer) at 0) v mask))) (set-getD (b .active) at 0) })
+wrote-byte b at mask v false es eo eb ex ey ee =
+    rw (ee, ey, ex, eb, eo, es)
+    (record { answer-is = λ c t a. refl; banks-after = λ m. ap (λ (l : List ℕ). banks (set (b .active) at (merged 8 (getD (b .active) at 0) v mask)) l) (set-getD (b .buffer) at 0) })
+
+-- a buffered register's byte arms a session that the rise concerns, without a branch
+pub armed-joined : (armed one moves : Bool) → (armed || (one && moves)) ≡ cond one (armed || moves) armed
+armed-joined true true moves = refl
+armed-joined true false moves = refl
+armed-joined false true moves = refl
+armed-joined false false moves = refl

@@ -1,6 +1,6 @@
 -- Document 01, "What a whole byte does": the effect of a write of v.
 use Prim.Native.Nat.{ℕ}
-use mathlib.Core.Bool.{cond, _&&_}
+use mathlib.Core.Bool.{Bool, cond, _&&_}
 use lib.Bits.{bitXor}
 use lib.Dec.{eqb}
 use Rattle.base_bits.specs.Bits.{merged}
@@ -38,3 +38,9 @@ effectOf c e s a v =
     (cond (eqb (e .kind) buffered) (Buffer (merged 8 (s .buffer) v (e .mask)) (movedBits (s .buffer) v (e .mask)))
     (cond (eqb (e .kind) control) (controlEffect c a v)
     Nothing))
+
+-- the same of kinds 2 and 3, by whether the register is buffered
+abbrev pub byteEffect : Bool → ℕ → Stages → ℕ → Effect
+byteEffect kind3 mask s v =
+    cond kind3 (Buffer (merged 8 (s .buffer) v mask) (movedBits (s .buffer) v mask))
+    (Active (merged 8 (s .active) v mask) (movedBits (s .active) v mask))

@@ -14,7 +14,7 @@ use Rattle.reg_write.specs.declared.Stages.{Stages}
 use Rattle.reg_write.specs.declared.Effect.{Effect}
 use Rattle.reg_write.specs.declared.Effect.the-variants.{Nothing, Active, Buffer, Control, Transfer, Reset, Ignored}
 use Rattle.reg_write.specs.declared.Written.{Written}
-use Rattle.reg_write.specs.Effect.{effectOf}
+use Rattle.reg_write.specs.Effect.{effectOf, byteEffect}
 
 -- the bytes of one register in both stages
 abbrev pub stagesAt : Banks → ℕ → Stages
@@ -64,6 +64,11 @@ writtenOf c m b t a v = writtenBy c t a v (effectAt c m b a v)
 pub record Wrote (c : Chip) (m : List ℕ) (before : Banks) (t : Settings) (a v : ℕ) (answer : Written) (after : Banks) : Type 0 where
   pub answer-is : answer ≡ writtenOf c m before t a v
   pub banks-after : after ≡ writeBanks c m before a v
+
+-- what the code's write to a plain or a buffered register gives, whatever the chip, the map, the settings and its address
+pub record WroteByte (before : Banks) (at : ℕ) (kind3 : Bool) (mask v : ℕ) (answer : Written) (after : Banks) : Type 0 where
+  pub answer-is : (c : Chip) (t : Settings) (a : ℕ) → answer ≡ writtenBy c t a v (byteEffect kind3 mask (stagesAt before at) v)
+  pub banks-after : (m : List ℕ) → after ≡ applied m before at (byteEffect kind3 mask (stagesAt before at) v)
 
 -- the effect is on the byte of one register
 abbrev pub onByte : Effect → Bool

@@ -1,16 +1,19 @@
 // The write of one register: its effect is decided first, then applied to the two banks and answered.
 ghost use mathlib.Core.Path.{_≡_};
-ghost use mathlib.Core.Bool.{true};
+ghost use mathlib.Core.Bool.{true, cond};
 ghost use Prim.Native.Nat.{_<_};
 ghost use lib.ListN.{length};
 ghost use Rattle.reg_banks.specs.Banks.{banks, Mapped};
-ghost use Rattle.reg_write.specs.Write.{stagesAt, effectAt, applied, onByte, touchesOn, written, controlWritten, writtenBy, Wrote};
+ghost use Rattle.reg_write.specs.Write.{stagesAt, effectAt, applied, onByte, touchesOn, written, controlWritten, writtenBy, Wrote, WroteByte};
 
 mod rise;
 mod rule;
 
+use base_bits::merge;
 use base_chip::Chip;
 use bus_settings::Settings;
+use map_format::BUFFERED;
+use map_format::PLAIN;
 use map_format::entry_at;
 use reg_banks::reset;
 use reg_banks::transfer;
@@ -177,6 +180,39 @@ pub fn answer(chip: Chip, settings: Settings, address: u16, v: u8, effect: Effec
     }
 }
 
+// The first byte if so, else the second.
+fn one_of(first: bool, a: u8, b: u8) -> u8
+    ensures { λ r. ⌜ r ≡ cond first a b ⌝ }
+{
+    if first { a } else { b }
+}
+
+// Writes v to the byte of a plain register, or of a buffered one. Which of the two comes next can't be predicted, so that there is no branch
+// between them: both banks are stored to, one of them what it had.
+fn write_byte(
+    active: &mut [u8],
+    buffer: &mut [u8],
+    at: usize,
+    buffered: bool,
+    mask: u8,
+    v: u8,
+) -> Written
+    requires { ⌜ (length (now buffer) ≡ length (now active)) × (at < length (now active)) ⌝ }
+    ensures { λ r.
+        ⌜ WroteByte (banks (now (active .entry)) (now (buffer .entry))) at buffered mask v r (banks (now (active .exit)) (now (buffer .exit))) ⌝ }
+{
+    let before = stages_at(active, buffer, at);
+    let old = one_of(buffered, before.buffer, before.active);
+    let byte = merge(old, v, mask);
+    active[at] = one_of(buffered, before.active, byte);
+    buffer[at] = one_of(buffered, byte, before.buffer);
+    Written {
+        byte: byte,
+        effect: one_of(buffered, EFFECT_BUFFER, EFFECT_ACTIVE),
+        moved: old ^ byte,
+    }
+}
+
 // Writes v to the register at an address. The settings are those before the write.
 pub fn write(
     chip: Chip,
@@ -192,6 +228,14 @@ pub fn write(
         ⌜ Wrote chip (now (map .entry)) (banks (now (active .entry)) (now (buffer .entry))) settings address v r
         (banks (now (active .exit)) (now (buffer .exit))) ⌝ }
 {
+    let at = address as usize;
+    if at < active.len() {
+        let register = entry_at(map, active.len(), at);
+        let buffered = register.kind == BUFFERED;
+        if (register.kind == PLAIN) | buffered {
+            return write_byte(active, buffer, at, buffered, register.mask, v);
+        }
+    }
     let effect = effect_at(chip, map, active, buffer, address, v);
     apply(map, active, buffer, address, effect);
     answer(chip, settings, address, v, effect)

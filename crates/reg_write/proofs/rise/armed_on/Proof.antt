@@ -2,8 +2,10 @@
 use borrow.Author.Needs.{needs}
 use borrow.Author.Tests.{eq-eqb, ne-eqb}
 use mathlib.Core.Path.{refl}
+use lib.Dec.{eqb}
 use Rattle.base_bits.proofs.Cases.{yes, no}
-use Rattle.reg_write.specs.Rise.{armedOn}
+use Rattle.reg_write.specs.Rise.{movesAtRise, armedOn}
+use Rattle.reg_write.proofs.Laws.{armed-joined}
 use Rattle.reg_write.proofs.rise.armed_on.Statement.{statement}
 use Rattle.reg_write.proofs.rise.armed_on.Tie as tie
 
@@ -16,11 +18,10 @@ moves-at-rise-requires c κs = search needs
 
 returns-2 : tie.Need-returns-2
 unfolding armedOn
-returns-2 c = no _ (ne-eqb _ _ (c .before .before .if1 .left)) (yes _ (eq-eqb _ _ (c .before .if2 .taken)) (rw (c .moves-at-rise .ensures)))
-
-returns-3 : tie.Need-returns-3
-unfolding armedOn
-returns-3 c = no _ (ne-eqb _ _ (c .before .if1 .left)) (no _ (ne-eqb _ _ (c .if2 .left)) refl)
+returns-2 c =
+    let a = c .before .before .before .args in
+    no _ (ne-eqb _ _ (c .before .if1 .left))
+    (rw (c .moves-at-rise .ensures) (armed-joined (a .armed) (eqb (a .effect) 2) (movesAtRise (a .chip) (a .map .now))))
 
 pub armed-on-spec : {M : Type 1} → statement M
-armed-on-spec = tie.close (tie.spec returns moves-at-rise-requires returns-2 returns-3)
+armed-on-spec = tie.close (tie.spec returns moves-at-rise-requires returns-2)
