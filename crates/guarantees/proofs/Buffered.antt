@@ -91,7 +91,7 @@ module _ (c : Chip) (m : List ℕ) (a : ℕ) (kind : registerAt m a .kind ≡ bu
       (λ _. refl)))
     where
       Kept : Effect → Type 0
-      Kept e = inForce a (applied m b (p .address) e) ≡ inForce a b
+      Kept e = inForce a (applied m b e) ≡ inForce a b
 
       there : ℕ
       there = registerAt m (p .address) .kind

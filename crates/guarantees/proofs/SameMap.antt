@@ -1,7 +1,7 @@
 -- Whatever reads a map reads its count, its registers and its flags.
 use Prim.Native.Nat.{ℕ, zero, suc, _+_}
 use mathlib.Core.Path.{_≡_, refl, ap, sym, _∙_}
-use mathlib.Core.Bool.{Bool}
+use mathlib.Core.Bool.{Bool, true, false}
 use mathlib.Core.List.{List, [], _∷_}
 use Rattle.map_format.specs.Format.{countOf, flagsOf, SameRegisters}
 use Rattle.map_test.specs.MapTest.{topFits}
@@ -16,7 +16,7 @@ use Rattle.bus_session.specs.Event.{eventOf}
 use Rattle.reg_banks.specs.Banks.{Banks, banks, defaultsFrom, defaultBanks, transferFrom, transferred}
 use Rattle.reg_banks.specs.Read.{dueByte}
 use Rattle.reg_write.specs.declared.Effect.{Effect}
-use Rattle.reg_write.specs.declared.Effect.the-variants.{Nothing, Active, Buffer, Control, Transfer, Reset, Ignored}
+use Rattle.reg_write.specs.declared.Effect.the-variants.{Nothing, Byte, Control, Transfer, Reset, Ignored}
 use Rattle.reg_write.specs.Write.{effectAt, applied, writeBanks}
 use Rattle.reg_write.specs.Rise.{armedBy, riseBanks}
 use Rattle.read_records.specs.Records.{recordOf}
@@ -45,19 +45,18 @@ module _ (c : Chip) (m m′ : List ℕ) (s : SameRegisters m m′) (f : flagsOf 
   unfolding transferred
   transferred-same b = ap (λ (l : List ℕ). banks l (b .buffer)) (transfer-same 0 (b .active) (b .buffer))
 
-  applied-same : (b : Banks) (a : ℕ) (e : Effect) → applied m b a e ≡ applied m′ b a e
+  applied-same : (b : Banks) (e : Effect) → applied m b e ≡ applied m′ b e
   unfolding applied
-  applied-same b a Nothing = refl
-  applied-same b a (Active byte moved) = refl
-  applied-same b a (Buffer byte moved) = refl
-  applied-same b a Control = refl
-  applied-same b a Transfer = transferred-same b
-  applied-same b a Reset = opened-same
-  applied-same b a Ignored = refl
+  applied-same b Nothing = refl
+  applied-same b (Byte ofBuffer a byte moved) = refl
+  applied-same b Control = refl
+  applied-same b Transfer = transferred-same b
+  applied-same b Reset = opened-same
+  applied-same b Ignored = refl
 
   write-same : (b : Banks) (a v : ℕ) → writeBanks c m b a v ≡ writeBanks c m′ b a v
   unfolding writeBanks
-  write-same b a v = rw (s .same-entry a) (applied-same b a (effectAt c m′ b a v))
+  write-same b a v = rw (s .same-entry a) (applied-same b (effectAt c m′ b a v))
 
   record-same : (b : Banks) (t : Settings) (e : Event) → recordOf c m b t e ≡ recordOf c m′ b t e
   unfolding recordOf dueByte
@@ -80,8 +79,8 @@ module _ (c : Chip) (m m′ : List ℕ) (s : SameRegisters m m′) (f : flagsOf 
   armed-by-same : (armed : Bool) (e : Effect) → armedBy c m armed e ≡ armedBy c m′ armed e
   unfolding armedBy
   armed-by-same armed Nothing = refl
-  armed-by-same armed (Active byte moved) = refl
-  armed-by-same armed (Buffer byte moved) = rw f
+  armed-by-same armed (Byte false a byte moved) = refl
+  armed-by-same armed (Byte true a byte moved) = rw f
   armed-by-same armed Control = refl
   armed-by-same armed Transfer = refl
   armed-by-same armed Reset = refl

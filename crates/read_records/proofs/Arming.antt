@@ -21,7 +21,7 @@ use Rattle.bus_session.proofs.Form.{Form, rests, instructs, has-data, stalls, p
 use Rattle.bus_session.proofs.Laws.{sound-step}
 use Rattle.reg_banks.specs.Banks.{Banks}
 use Rattle.reg_write.specs.declared.Effect.{Effect}
-use Rattle.reg_write.specs.declared.Effect.the-variants.{Active, Buffer, Control, Transfer, Reset, Ignored}
+use Rattle.reg_write.specs.declared.Effect.the-variants.{Byte, Control, Transfer, Reset, Ignored}
 use Rattle.reg_write.specs.declared.Effect.the-variants as effect
 use Rattle.reg_write.specs.Write.{effectAt}
 use Rattle.reg_write.specs.Rise.{armedBy}
@@ -35,8 +35,8 @@ ArmGood c armed p = (not armed || mayArm c p) ≡ true
 older-by : (part : Part) (top : ℕ) (m : List ℕ) (e : Effect) → armedBy (Older part top) m false e ≡ false
 unfolding armedBy
 older-by part top m effect.Nothing = refl
-older-by part top m (Active byte moved) = refl
-older-by part top m (Buffer byte moved) = refl
+older-by part top m (Byte false a byte moved) = refl
+older-by part top m (Byte true a byte moved) = refl
 older-by part top m Control = refl
 older-by part top m Transfer = refl
 older-by part top m Reset = refl

@@ -1,9 +1,7 @@
 // The write of one register in its ranges: its effect is decided first, then done to the memory and answered.
 ghost use mathlib.Core.Path.{_≡_};
-ghost use mathlib.Core.Bool.{true};
-ghost use Prim.Native.Nat.{_<_};
 ghost use Rattle.base_chip.specs.declared.Chip.the-variants.{Newer};
-ghost use Rattle.reg_write.specs.Write.{effectAt, applied, onByte};
+ghost use Rattle.reg_write.specs.Write.{effectAt, applied, ByteBelow};
 ghost use Rattle.reg_ranges.specs.Ranges.{banksIn, placed, RangesWithin, WroteWithin};
 use crate::reset_within;
 use crate::transfer_within;
@@ -37,30 +35,35 @@ pub fn effect_within(
     )
 }
 
-// Does an effect on the register at an address to both ranges.
+// Does an effect to both ranges.
 pub fn apply_within(
     map: &[u8],
     memory: &mut [u8],
     n: usize,
     active: usize,
     buffer: usize,
-    address: u16,
     effect: Effect,
 )
-    requires { ⌜ (RangesWithin (now map) (now memory) n active buffer) × (onByte effect ≡ true → address < n) ⌝ }
+    requires { ⌜ (RangesWithin (now map) (now memory) n active buffer) × (ByteBelow n effect) ⌝ }
     ensures { λ r.
         ⌜ now (memory .exit)
         ≡ placed (now (memory .entry)) active buffer
-        (applied (now (map .entry)) (banksIn (now (memory .entry)) n active buffer) address effect) ⌝ }
+        (applied (now (map .entry)) (banksIn (now (memory .entry)) n active buffer) effect) ⌝ }
 {
-    let at = address as usize;
     match effect {
         Effect::Nothing => {}
-        Effect::Active { byte, moved: _ } => {
-            memory[active + at] = byte;
-        }
-        Effect::Buffer { byte, moved: _ } => {
-            memory[buffer + at] = byte;
+        Effect::Byte {
+            buffered,
+            address,
+            byte,
+            moved: _,
+        } => {
+            let at = address as usize;
+            if buffered {
+                memory[buffer + at] = byte;
+            } else {
+                memory[active + at] = byte;
+            }
         }
         Effect::Control => {}
         Effect::Transfer => {
@@ -88,6 +91,6 @@ pub fn write_within(
     ensures { λ r. ⌜ WroteWithin (now (map .entry)) (now (memory .entry)) n active buffer settings address v r (now (memory .exit)) ⌝ }
 {
     let effect = effect_within(map, memory, n, active, buffer, address, v);
-    apply_within(map, memory, n, active, buffer, address, effect);
+    apply_within(map, memory, n, active, buffer, effect);
     answer(Chip::Newer, settings, address, v, effect)
 }

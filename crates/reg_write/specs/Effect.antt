@@ -1,6 +1,6 @@
 -- Document 01, "What a whole byte does": the effect of a write of v.
 use Prim.Native.Nat.{ℕ}
-use mathlib.Core.Bool.{Bool, cond, _&&_}
+use mathlib.Core.Bool.{Bool, true, false, cond, _&&_}
 use lib.Bits.{bitXor}
 use lib.Dec.{eqb}
 use Rattle.base_bits.specs.Bits.{merged}
@@ -13,7 +13,7 @@ use Rattle.base_chip.specs.Chip.{isNewer}
 use Rattle.bus_settings.specs.Settings.{resets, transfersAt}
 use Rattle.reg_write.specs.declared.Stages.{Stages}
 use Rattle.reg_write.specs.declared.Effect.{Effect}
-use Rattle.reg_write.specs.declared.Effect.the-variants.{Nothing, Active, Buffer, Control, Transfer, Reset, Ignored}
+use Rattle.reg_write.specs.declared.Effect.the-variants.{Nothing, Byte, Control, Transfer, Reset, Ignored}
 
 -- 0x0000 of a newer chip: a soft reset if the byte asks for it. Document 02, Ask 2: a byte that is not its own mirror is ignored.
 abbrev pub configurationEffect : ℕ → Effect
@@ -30,17 +30,15 @@ controlEffect c a v =
 abbrev pub movedBits : ℕ → ℕ → ℕ → ℕ
 movedBits old v mask = bitXor old (merged 8 old v mask)
 
+-- such a byte at an address, of the buffer stage if so, else of the active stage
+abbrev pub byteEffect : Bool → ℕ → ℕ → ℕ → ℕ → Effect
+byteEffect ofBuffer a old v mask = Byte ofBuffer a (merged 8 old v mask) (movedBits old v mask)
+
 -- By the register's entry and its bytes of both stages: kind 2 takes v into the active byte where the mask has ones, kind 3 into the
 -- buffer byte. A blank or read-only register takes nothing, and beyond the map a register is blank.
 unfoldable pub effectOf : Chip → Entry → Stages → ℕ → ℕ → Effect
 effectOf c e s a v =
-    cond (eqb (e .kind) plain) (Active (merged 8 (s .active) v (e .mask)) (movedBits (s .active) v (e .mask)))
-    (cond (eqb (e .kind) buffered) (Buffer (merged 8 (s .buffer) v (e .mask)) (movedBits (s .buffer) v (e .mask)))
+    cond (eqb (e .kind) plain) (byteEffect false a (s .active) v (e .mask))
+    (cond (eqb (e .kind) buffered) (byteEffect true a (s .buffer) v (e .mask))
     (cond (eqb (e .kind) control) (controlEffect c a v)
     Nothing))
-
--- the same of kinds 2 and 3, by whether the register is buffered
-abbrev pub byteEffect : Bool → ℕ → Stages → ℕ → Effect
-byteEffect kind3 mask s v =
-    cond kind3 (Buffer (merged 8 (s .buffer) v mask) (movedBits (s .buffer) v mask))
-    (Active (merged 8 (s .active) v mask) (movedBits (s .active) v mask))

@@ -1,6 +1,6 @@
 -- Document 02, Ask 4: transfer when the select rises.
 use Prim.Native.Nat.{ℕ}
-use mathlib.Core.Bool.{Bool, false, cond, _&&_, _||_}
+use mathlib.Core.Bool.{Bool, true, false, cond, _&&_, _||_}
 use mathlib.Core.List.{List}
 use lib.Dec.{eqb}
 use Rattle.base_bits.specs.Bits.{bitAt}
@@ -9,7 +9,7 @@ use Rattle.base_chip.specs.Chip.{isNewer}
 use Rattle.map_format.specs.Format.{flagsOf}
 use Rattle.reg_banks.specs.Banks.{Banks, transferred}
 use Rattle.reg_write.specs.declared.Effect.{Effect}
-use Rattle.reg_write.specs.declared.Effect.the-variants.{Nothing, Active, Buffer, Control, Transfer, Reset, Ignored}
+use Rattle.reg_write.specs.declared.Effect.the-variants.{Nothing, Byte, Control, Transfer, Reset, Ignored}
 
 -- the end of a frame can move bytes: never on an older chip, nor with a map without the flag
 abbrev pub movesAtRise : Chip → List ℕ → Bool
@@ -18,8 +18,8 @@ movesAtRise c m = isNewer c && bitAt (flagsOf m) 0
 -- Whether the session is armed after a write, by its effect: a byte to a buffered register arms it, a soft reset disarms it.
 unfoldable pub armedBy : Chip → List ℕ → Bool → Effect → Bool
 armedBy c m armed Nothing = armed
-armedBy c m armed (Active byte moved) = armed
-armedBy c m armed (Buffer byte moved) = armed || movesAtRise c m
+armedBy c m armed (Byte false a byte moved) = armed
+armedBy c m armed (Byte true a byte moved) = armed || movesAtRise c m
 armedBy c m armed Control = armed
 armedBy c m armed Transfer = armed
 armedBy c m armed Reset = false

@@ -4,16 +4,13 @@ ghost use mathlib.Core.Bool.{true, cond};
 ghost use Prim.Native.Nat.{_<_};
 ghost use lib.ListN.{length};
 ghost use Rattle.reg_banks.specs.Banks.{banks, Mapped};
-ghost use Rattle.reg_write.specs.Write.{stagesAt, effectAt, applied, onByte, touchesOn, written, controlWritten, writtenBy, Wrote, WroteByte};
+ghost use Rattle.reg_write.specs.Write.{stagesAt, effectAt, withByte, applied, ByteBelow, touchesOn, written, controlWritten, writtenBy, Wrote};
 
 mod rise;
 mod rule;
 
-use base_bits::merge;
 use base_chip::Chip;
 use bus_settings::Settings;
-use map_format::BUFFERED;
-use map_format::PLAIN;
 use map_format::entry_at;
 use reg_banks::reset;
 use reg_banks::transfer;
@@ -32,10 +29,14 @@ const EFFECT_RESET: u8 = 5;
 // What a write does to the registers.
 pub enum Effect {
     Nothing,
-    // The active byte of the register becomes this one, and these bits of it differ from the old one.
-    Active { byte: u8, moved: u8 },
-    // Its buffer byte does.
-    Buffer { byte: u8, moved: u8 },
+    // The active byte at an address becomes this one, or the buffer byte if the register is buffered; these bits of it differ from the
+    // old one. (The address goes with it for the reader's speed too: an effect of four bytes is returned as one word.)
+    Byte {
+        buffered: bool,
+        address: u16,
+        byte: u8,
+        moved: u8,
+    },
     // Settings alone may change.
     Control,
     // Every buffered register's active byte takes its buffer byte.
@@ -64,6 +65,13 @@ pub fn touches(effect: u8) -> bool
 pub struct Stages {
     pub active: u8,
     pub buffer: u8,
+}
+
+// The first byte if so, else the second. A caller for whom neither can be predicted has no branch this way.
+fn one_of(first: bool, a: u8, b: u8) -> u8
+    ensures { λ r. ⌜ r ≡ cond first a b ⌝ }
+{
+    if first { a } else { b }
 }
 
 // The bytes at an address of the two banks.
@@ -130,21 +138,35 @@ pub fn effect_at(
     effect_of(chip, register, stages, address, v)
 }
 
-// Does an effect on the register at an address to the two banks.
-fn apply(map: &[u8], active: &mut [u8], buffer: &mut [u8], address: u16, effect: Effect)
-    requires { ⌜ (Mapped (now map) (banks (now active) (now buffer))) × (onByte effect ≡ true → address < length (now active)) ⌝ }
+// Puts a byte into one stage of a register. Which of the two comes next can't be predicted, so that there is no branch between them:
+// both banks are stored to, one of them what it had.
+fn put_byte(active: &mut [u8], buffer: &mut [u8], at: usize, buffered: bool, byte: u8)
+    requires { ⌜ (length (now buffer) ≡ length (now active)) × (at < length (now active)) ⌝ }
     ensures { λ r.
         ⌜ banks (now (active .exit)) (now (buffer .exit))
-        ≡ applied (now (map .entry)) (banks (now (active .entry)) (now (buffer .entry))) address effect ⌝ }
+        ≡ withByte buffered (banks (now (active .entry)) (now (buffer .entry))) at byte ⌝ }
 {
-    let at = address as usize;
+    let before = stages_at(active, buffer, at);
+    active[at] = one_of(buffered, before.active, byte);
+    buffer[at] = one_of(buffered, byte, before.buffer);
+}
+
+// Does an effect to the two banks.
+fn apply(map: &[u8], active: &mut [u8], buffer: &mut [u8], effect: Effect)
+    requires { ⌜ (Mapped (now map) (banks (now active) (now buffer))) × (ByteBelow (length (now active)) effect) ⌝ }
+    ensures { λ r.
+        ⌜ banks (now (active .exit)) (now (buffer .exit))
+        ≡ applied (now (map .entry)) (banks (now (active .entry)) (now (buffer .entry))) effect ⌝ }
+{
     match effect {
         Effect::Nothing => {}
-        Effect::Active { byte, moved: _ } => {
-            active[at] = byte;
-        }
-        Effect::Buffer { byte, moved: _ } => {
-            buffer[at] = byte;
+        Effect::Byte {
+            buffered,
+            address,
+            byte,
+            moved: _,
+        } => {
+            put_byte(active, buffer, address as usize, buffered, byte);
         }
         Effect::Control => {}
         Effect::Transfer => {
@@ -163,53 +185,20 @@ pub fn answer(chip: Chip, settings: Settings, address: u16, v: u8, effect: Effec
 {
     match effect {
         Effect::Nothing => untaken(0),
-        Effect::Active { byte, moved } => Written {
+        Effect::Byte {
+            buffered,
+            address: _,
+            byte,
+            moved,
+        } => Written {
             byte: byte,
-            effect: EFFECT_ACTIVE,
-            moved: moved,
-        },
-        Effect::Buffer { byte, moved } => Written {
-            byte: byte,
-            effect: EFFECT_BUFFER,
+            effect: one_of(buffered, EFFECT_BUFFER, EFFECT_ACTIVE),
             moved: moved,
         },
         Effect::Control => control_answer(chip, settings, address, v, 3),
         Effect::Transfer => control_answer(chip, settings, address, v, 4),
         Effect::Reset => control_answer(chip, settings, address, v, EFFECT_RESET),
         Effect::Ignored => untaken(settings.reading(chip, address)),
-    }
-}
-
-// The first byte if so, else the second.
-fn one_of(first: bool, a: u8, b: u8) -> u8
-    ensures { λ r. ⌜ r ≡ cond first a b ⌝ }
-{
-    if first { a } else { b }
-}
-
-// Writes v to the byte of a plain register, or of a buffered one. Which of the two comes next can't be predicted, so that there is no branch
-// between them: both banks are stored to, one of them what it had.
-fn write_byte(
-    active: &mut [u8],
-    buffer: &mut [u8],
-    at: usize,
-    buffered: bool,
-    mask: u8,
-    v: u8,
-) -> Written
-    requires { ⌜ (length (now buffer) ≡ length (now active)) × (at < length (now active)) ⌝ }
-    ensures { λ r.
-        ⌜ WroteByte (banks (now (active .entry)) (now (buffer .entry))) at buffered mask v r (banks (now (active .exit)) (now (buffer .exit))) ⌝ }
-{
-    let before = stages_at(active, buffer, at);
-    let old = one_of(buffered, before.buffer, before.active);
-    let byte = merge(old, v, mask);
-    active[at] = one_of(buffered, before.active, byte);
-    buffer[at] = one_of(buffered, byte, before.buffer);
-    Written {
-        byte: byte,
-        effect: one_of(buffered, EFFECT_BUFFER, EFFECT_ACTIVE),
-        moved: old ^ byte,
     }
 }
 
@@ -228,15 +217,7 @@ pub fn write(
         ⌜ Wrote chip (now (map .entry)) (banks (now (active .entry)) (now (buffer .entry))) settings address v r
         (banks (now (active .exit)) (now (buffer .exit))) ⌝ }
 {
-    let at = address as usize;
-    if at < active.len() {
-        let register = entry_at(map, active.len(), at);
-        let buffered = register.kind == BUFFERED;
-        if (register.kind == PLAIN) | buffered {
-            return write_byte(active, buffer, at, buffered, register.mask, v);
-        }
-    }
     let effect = effect_at(chip, map, active, buffer, address, v);
-    apply(map, active, buffer, address, effect);
+    apply(map, active, buffer, effect);
     answer(chip, settings, address, v, effect)
 }

@@ -3,6 +3,7 @@ ghost use mathlib.Core.Path.{_≡_};
 ghost use Rattle.reg_write.specs.Effect.{configurationEffect, controlEffect, effectOf};
 use crate::Effect;
 use crate::Stages;
+use crate::one_of;
 use base_bits::merge;
 use base_card::is_mirror;
 use base_chip::CONFIGURATION_A;
@@ -45,18 +46,15 @@ fn control_effect(chip: Chip, address: u16, v: u8) -> Effect
 pub fn effect_of(chip: Chip, register: Entry, stages: Stages, address: u16, v: u8) -> Effect
     ensures { λ r. ⌜ r ≡ effectOf chip register stages address v ⌝ }
 {
-    if register.kind == PLAIN {
-        let byte = merge(stages.active, v, register.mask);
-        return Effect::Active {
+    let buffered = register.kind == BUFFERED;
+    if (register.kind == PLAIN) | buffered {
+        let old = one_of(buffered, stages.buffer, stages.active);
+        let byte = merge(old, v, register.mask);
+        return Effect::Byte {
+            buffered: buffered,
+            address: address,
             byte: byte,
-            moved: stages.active ^ byte,
-        };
-    }
-    if register.kind == BUFFERED {
-        let byte = merge(stages.buffer, v, register.mask);
-        return Effect::Buffer {
-            byte: byte,
-            moved: stages.buffer ^ byte,
+            moved: old ^ byte,
         };
     }
     if register.kind == CONTROL {

@@ -1,7 +1,7 @@
--- `writing::answer` meets its contract: one equation of the definition for each effect.
+-- `answer` meets its contract: one equation of the definition for each effect.
 use borrow.Author.Needs.{needs}
-use mathlib.Core.Path.{refl}
 use Rattle.reg_write.specs.Write.{writtenBy}
+use Rattle.reg_write.proofs.Laws.{byte-number}
 use Rattle.reg_write.proofs.answer.Statement.{statement}
 use Rattle.reg_write.proofs.answer.Tie as tie
 
@@ -14,8 +14,8 @@ untaken-requires c κs = search needs
 enum-known-effect : tie.Need-enum-known-effect
 enum-known-effect c = search needs
 
-enum-known-effect-2 : tie.Need-enum-known-effect-2
-enum-known-effect-2 c = search needs
+one-of-requires : tie.Need-one-of-requires
+one-of-requires c κs = search needs
 
 enum-told-2 : tie.Need-enum-told-2
 enum-told-2 c = search needs
@@ -49,28 +49,23 @@ unfolding writtenBy
 returns c = rw (c .before .enum-told .given .1) (c .untaken .ensures)
 
 returns-2 : tie.Need-returns-2
-unfolding writtenBy
-returns-2 c = rw (c .before .effect .given .1) refl
+returns-2 c = rw (c .before .before .effect .given .1) (byte-number _ _ _ _ _ _ _ _ (c .one-of .ensures))
 
 returns-3 : tie.Need-returns-3
 unfolding writtenBy
-returns-3 c = rw (c .before .effect2 .given .1) refl
+returns-3 c = rw (c .before .enum-told2 .given .1) (c .control-answer .ensures)
 
 returns-4 : tie.Need-returns-4
 unfolding writtenBy
-returns-4 c = rw (c .before .enum-told2 .given .1) (c .control-answer .ensures)
+returns-4 c = rw (c .before .enum-told3 .given .1) (c .control-answer2 .ensures)
 
 returns-5 : tie.Need-returns-5
 unfolding writtenBy
-returns-5 c = rw (c .before .enum-told3 .given .1) (c .control-answer2 .ensures)
+returns-5 c = rw (c .before .enum-told4 .given .1) (c .control-answer3 .ensures)
 
 returns-6 : tie.Need-returns-6
 unfolding writtenBy
-returns-6 c = rw (c .before .enum-told4 .given .1) (c .control-answer3 .ensures)
-
-returns-7 : tie.Need-returns-7
-unfolding writtenBy
-returns-7 c = rw (c .before .before .enum-told5 .given .1) (rw (← c .before .reading .ensures) (c .untaken2 .ensures))
+returns-6 c = rw (c .before .before .enum-told5 .given .1) (rw (← c .before .reading .ensures) (c .untaken2 .ensures))
 
 pub answer-spec : {M : Type 1} → statement M
 answer-spec =
@@ -79,7 +74,7 @@ answer-spec =
     enum-told
     untaken-requires
     enum-known-effect
-    enum-known-effect-2
+    one-of-requires
     enum-told-2
     control-answer-requires
     enum-told-3
@@ -94,5 +89,4 @@ answer-spec =
     returns-3
     returns-4
     returns-5
-    returns-6
-    returns-7)
+    returns-6)

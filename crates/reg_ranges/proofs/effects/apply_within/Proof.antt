@@ -1,19 +1,16 @@
--- `ranges::effects::apply_within` meets its contract: for each effect, what the memory becomes is the banks after it, put in their ranges.
+-- `apply_within` meets its contract: for each effect, what the memory becomes is the banks after it, put in their ranges.
 use borrow.Author.Needs.{needs}
 use native.Mathlib.Omega.{arith}
 use Prim.Native.Nat.{_<_}
-use mathlib.Core.Path.{sym, ap}
-use Rattle.reg_write.specs.Write.{applied, onByte}
+use mathlib.Core.Path.{sym}
+use Rattle.reg_write.specs.Write.{applied}
 use Rattle.reg_ranges.proofs.Laws.{placed-same, placed-active-byte, placed-buffer-byte}
 use Rattle.reg_ranges.proofs.effects.apply_within.Statement.{statement}
 use Rattle.reg_ranges.proofs.effects.apply_within.Tie as tie
 
 -- the byte of an effect on one is in its range
-below-active : (c : tie.After-known-told) → let at = c .before .before .before .before .before .args in at .address < at .n
-below-active c = c .before .before .before .before .before .pre .1 (ap onByte (c .before .effect .given .1))
-
-below-buffer : (c : tie.After-known-told2) → let at = c .before .before .before .before .before .args in at .address < at .n
-below-buffer c = c .before .before .before .before .before .pre .1 (ap onByte (c .before .effect2 .given .1))
+below : (c : tie.After-known-told) → c .before .effect .given .0 .1 .0 < c .before .before .before .before .before .args .n
+below c = c .before .before .before .before .before .pre .1 _ _ _ _ (c .before .effect .given .1)
 
 enum-told : tie.Need-enum-told
 enum-told c = search needs
@@ -21,20 +18,20 @@ enum-told c = search needs
 enum-known-effect : tie.Need-enum-known-effect
 enum-known-effect c = search needs
 
+cast-at : tie.Need-cast-at
+cast-at c = search needs
+
 add-memory : tie.Need-add-memory
 add-memory c = search needs
 
 slice-write-memory : tie.Need-slice-write-memory
-slice-write-memory c = omega (arith, below-active c, c .before .before .before .before .before .pre .0 .active-fits)
-
-enum-known-effect-2 : tie.Need-enum-known-effect-2
-enum-known-effect-2 c = search needs
+slice-write-memory c = omega (arith, below (c .before), c .before .before .before .before .before .before .pre .0 .buffer-fits)
 
 add-memory-2 : tie.Need-add-memory-2
 add-memory-2 c = search needs
 
 slice-write-memory-2 : tie.Need-slice-write-memory-2
-slice-write-memory-2 c = omega (arith, below-buffer c, c .before .before .before .before .before .pre .0 .buffer-fits)
+slice-write-memory-2 c = omega (arith, below (c .before), c .before .before .before .before .before .before .pre .0 .active-fits)
 
 enum-told-2 : tie.Need-enum-told-2
 enum-told-2 c = search needs
@@ -64,7 +61,7 @@ same-length c = search needs
 returns-2 : tie.Need-returns-2
 unfolding applied
 returns-2 c =
-    rw (c .before .effect .given .1) (sym (placed-active-byte (c .before .before .before .before .before .pre .0) _ _ (below-active c)))
+    rw (c .before .before .effect .given .1, c .if1 .taken) (sym (placed-buffer-byte (c .before .before .before .before .before .before .pre .0) _ _ (below (c .before))))
 
 same-length-2 : tie.Need-same-length-2
 same-length-2 c = search needs
@@ -72,7 +69,7 @@ same-length-2 c = search needs
 returns-3 : tie.Need-returns-3
 unfolding applied
 returns-3 c =
-    rw (c .before .effect2 .given .1) (sym (placed-buffer-byte (c .before .before .before .before .before .pre .0) _ _ (below-buffer c)))
+    rw (c .before .before .effect .given .1, c .if1 .left) (sym (placed-active-byte (c .before .before .before .before .before .before .pre .0) _ _ (below (c .before))))
 
 returns-4 : tie.Need-returns-4
 unfolding applied
@@ -102,9 +99,9 @@ apply-within-spec =
     (tie.spec
     enum-told
     enum-known-effect
+    cast-at
     add-memory
     slice-write-memory
-    enum-known-effect-2
     add-memory-2
     slice-write-memory-2
     enum-told-2

@@ -1,7 +1,7 @@
--- `ranges::effects::write_within` meets its contract: the effect of the write is applied to the ranges, and answered.
+-- `write_within` meets its contract: the effect of the write is applied to the ranges, and answered.
 use borrow.Author.Needs.{needs}
-use mathlib.Core.Path.{ap, sym, _∙_}
-use Rattle.reg_write.specs.Write.{onByte, writeBanks}
+use mathlib.Core.Path.{sym, _∙_}
+use Rattle.reg_write.specs.Write.{writeBanks}
 use Rattle.reg_ranges.proofs.Laws.{effect-below}
 use Rattle.reg_ranges.proofs.effects.write_within.Statement.{statement}
 use Rattle.reg_ranges.proofs.effects.write_within.Tie as tie
@@ -13,7 +13,7 @@ apply-within-requires : tie.Need-apply-within-requires
 apply-within-requires c κs =
     let decided = c .before in
     let within = decided .before .before .before .before .pre in
-    (within, λ t. effect-below within _ _ (sym (ap onByte (decided .effect-within .ensures)) ∙ t))
+    (within, λ o a x y t. effect-below within _ _ o a x y (sym (decided .effect-within .ensures) ∙ t))
 
 answer-requires : tie.Need-answer-requires
 answer-requires c κs = search needs

@@ -1,57 +1,40 @@
--- `writing::rule::effect_of` meets its contract: each return has gone by the tests of the definition.
+-- `effect_of` meets its contract: each return has gone by the tests of the definition.
 use borrow.Author.Needs.{needs}
 use borrow.Author.Tests.{eq-eqb, ne-eqb}
-use mathlib.Core.Path.{ap}
-use Prim.Native.Nat.{ℕ}
-use lib.Bits.{bitXor}
-use Rattle.reg_write.specs.declared.Effect.the-variants.{Active, Buffer}
-use Rattle.reg_write.specs.Effect.{effectOf}
+use mathlib.Core.Path.{refl, _∙_}
+use Rattle.base_bits.proofs.Cases.{yes, no}
+use Rattle.reg_write.proofs.Laws.{byte-effect, other-effect}
 use Rattle.reg_write.proofs.rule.effect_of.Statement.{statement}
 use Rattle.reg_write.proofs.rule.effect_of.Tie as tie
+
+one-of-requires : tie.Need-one-of-requires
+one-of-requires c κs = search needs
 
 merge-requires : tie.Need-merge-requires
 merge-requires c κs = search needs
 
 returns : tie.Need-returns
-unfolding effectOf
 returns c =
-    let at = c .before .before in
-    rw (eq-eqb _ _ (at .if1 .taken)) (ap (λ (x : ℕ). Active x (bitXor (at .before .before .args .stages .active) x)) (c .before .merge .ensures))
-
-merge-requires-2 : tie.Need-merge-requires-2
-merge-requires-2 c κs = search needs
-
-returns-2 : tie.Need-returns-2
-unfolding effectOf
-returns-2 c =
-    let at = c .before .before in
-    let else = at .before .before in
-    rw (ne-eqb _ _ (else .if1 .left), eq-eqb _ _ (at .if2 .taken))
-    (ap (λ (x : ℕ). Buffer x (bitXor (else .before .before .args .stages .buffer) x)) (c .before .merge2 .ensures))
+    let a = c .before .before .before .before .before .args in
+    byte-effect (a .chip) (a .register) (a .stages) (a .address) (a .v) (c .before .before .if1 .taken) (c .before .one-of .ensures) (c .merge .ensures)
 
 control-effect-requires : tie.Need-control-effect-requires
 control-effect-requires c κs = search needs
 
-returns-3 : tie.Need-returns-3
-unfolding effectOf
-returns-3 c =
-    let at = c .before .before .before in
-    rw (ne-eqb _ _ (at .before .before .if1 .left), ne-eqb _ _ (at .if2 .left), eq-eqb _ _ (c .before .if3 .taken)) (c .control-effect .ensures)
+returns-2 : tie.Need-returns-2
+returns-2 c =
+    let else = c .before .before .before in
+    let a = else .before .before .before .args in
+    yes _ (eq-eqb _ _ (c .before .if2 .taken)) (c .control-effect .ensures)
+    ∙ other-effect (a .chip) (a .register) (a .stages) (a .address) (a .v) (else .if1 .left)
 
-returns-4 : tie.Need-returns-4
-unfolding effectOf
-returns-4 c =
-    let at = c .before .before in
-    rw (ne-eqb _ _ (at .before .before .if1 .left), ne-eqb _ _ (at .if2 .left), ne-eqb _ _ (c .if3 .left))
+returns-3 : tie.Need-returns-3
+returns-3 c =
+    let else = c .before .before in
+    let a = else .before .before .before .args in
+    no _ (ne-eqb _ _ (c .if2 .left)) refl ∙ other-effect (a .chip) (a .register) (a .stages) (a .address) (a .v) (else .if1 .left)
 
 pub effect-of-spec : {M : Type 1} → statement M
 effect-of-spec =
     tie.close
-    (tie.spec
-    merge-requires
-    returns
-    merge-requires-2
-    returns-2
-    control-effect-requires
-    returns-3
-    returns-4)
+    (tie.spec one-of-requires merge-requires returns control-effect-requires returns-2 returns-3)
