@@ -60,34 +60,38 @@ library: build
 	@ln -s $(SONAME) target/lib/libcouplingnut.so
 
 # What is installed, under PREFIX. PCPREFIX is the prefix that pkg-config gives.
-INSTALLED = bin/busread bin/bussend bin/couplingnut bin/mkmap include/couplingnut.h lib/libcouplingnut.a lib/$(SHARED) lib/$(SONAME) \
-	lib/libcouplingnut.so lib/pkgconfig/couplingnut.pc $(PYTHON)/couplingnut.py $(REPORT:python/%=$(PYTHON)/%) \
+INSTALLED = bin/busread bin/bussend bin/couplingnut bin/mkmap $(HEADERS:host/%=include/%) lib/libcouplingnut.a lib/$(SHARED) lib/$(SONAME) \
+	lib/libcouplingnut.so lib/pkgconfig/couplingnut.pc $(MODULE:python/%=$(PYTHON)/%) $(REPORT:python/%=$(PYTHON)/%) \
 	$(DECODER:sigrok/%=$(DECODERS)/%) share/couplingnut/VERSION $(MAN:%=share/man/%)
 MAN = man1/busread.1 man1/bussend.1 man1/couplingnut.1 man1/mkmap.1 man3/couplingnut.3
+HEADERS = host/couplingnut.h host/couplingnut_order.h
 PYTHON = lib/python3/dist-packages
+MODULE = $(wildcard python/couplingnut/*.py)
 REPORT = $(wildcard python/couplingnut_report/*.py python/couplingnut_report/*.css)
 # Where libsigrokdecode looks for decoders, under /usr and /usr/local.
 DECODERS = share/libsigrokdecode/decoders
 DECODER = $(wildcard sigrok/couplingnut/*.py)
 PCPREFIX = $(PREFIX)
 TO = $(DESTDIR)$(PREFIX)
+# What an older installation had is taken away first: the Python module as one file.
 install: library
+	@rm -rf $(TO)/$(PYTHON)/couplingnut.py $(TO)/$(PYTHON)/__pycache__/couplingnut.*
 	@install -d $(sort $(dir $(INSTALLED:%=$(TO)/%)))
 	@install -m 755 target/host/busread target/host/bussend tools/couplingnut tools/mkmap $(TO)/bin
-	@install -m 644 host/couplingnut.h $(TO)/include
+	@install -m 644 $(HEADERS) $(TO)/include
 	@install -m 644 target/lib/libcouplingnut.a target/lib/$(SHARED) $(TO)/lib
 	@ln -sf $(SHARED) $(TO)/lib/$(SONAME)
 	@ln -sf $(SONAME) $(TO)/lib/libcouplingnut.so
 	@sed -e 's|@PREFIX@|$(PCPREFIX)|' -e 's|@VERSION@|$(VERSION)|' host/couplingnut.pc.in >target/lib/couplingnut.pc
 	@install -m 644 target/lib/couplingnut.pc $(TO)/lib/pkgconfig
-	@install -m 644 python/couplingnut.py $(TO)/$(PYTHON)
+	@install -m 644 $(MODULE) $(TO)/$(PYTHON)/couplingnut
 	@install -m 644 $(REPORT) $(TO)/$(PYTHON)/couplingnut_report
 	@install -m 644 $(DECODER) $(TO)/$(DECODERS)/couplingnut
 	@install -m 644 VERSION $(TO)/share/couplingnut
 	@for page in $(MAN); do install -m 644 "man/$${page#*/}" "$(TO)/share/man/$$page"; done
 
 uninstall:
-	@rm -rf $(TO)/$(PYTHON)/__pycache__/couplingnut.* $(TO)/$(PYTHON)/couplingnut_report $(TO)/$(DECODERS)/couplingnut
+	@rm -rf $(TO)/$(PYTHON)/couplingnut $(TO)/$(PYTHON)/couplingnut_report $(TO)/$(DECODERS)/couplingnut
 	@rm -f $(INSTALLED:%=$(TO)/%)
 	@-rmdir $(TO)/share/couplingnut 2>/dev/null || true
 

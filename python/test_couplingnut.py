@@ -1,5 +1,5 @@
 #!/usr/bin/env python3
-"""Tests of couplingnut.py, and through it of the shared library: a line that begins with 'ok' for each that passes."""
+"""Tests of the module couplingnut, and through it of the shared library: a line that begins with 'ok' for each that passes."""
 import os
 import sys
 import unittest

@@ -1,1 +1,1 @@
-"""Tests of couplingnut.py, and through it of the shared library."""
+"""Tests of the module couplingnut, and through it of the shared library."""

@@ -1,4 +1,6 @@
 """Opening, reading and the next record, the session, and the words for the numbers."""
+from array import array
+
 import couplingnut as cn
 from module_tests.made import MAP, SCRATCH_WRITE, WRITTEN, WRITTEN_AGAIN, Calls, opened
 
@@ -10,8 +12,8 @@ class Reading(Calls):
         words = cn.touched_words(MAP)
         cn.read(MAP, session, *banks, SCRATCH_WRITE, touched=words)
         self.assertEqual(list(cn.touched(words)), [0x000A])
-        self.assert_refused(16, cn.read, MAP, session, *banks, SCRATCH_WRITE, touched=cn.array('Q', [0, 0]))
-        self.assert_refused(16, cn.next_record, MAP, session, *banks, SCRATCH_WRITE, touched=cn.array('Q'))
+        self.assert_refused(16, cn.read, MAP, session, *banks, SCRATCH_WRITE, touched=array('Q', [0, 0]))
+        self.assert_refused(16, cn.next_record, MAP, session, *banks, SCRATCH_WRITE, touched=array('Q'))
 
     def test_rise(self):
         """with the flag, the end of the frame puts a buffered register in force"""

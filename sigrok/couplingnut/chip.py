@@ -2,12 +2,13 @@
 so that module and mkmap are loaded by their files."""
 import importlib.util
 import os
+import sys
 import types
 
 HERE = os.path.dirname(os.path.abspath(__file__))
 # From this folder: the source tree, and what `make install` puts under one prefix.
 ROOTS = [os.path.join(HERE, '..', '..'), os.path.join(HERE, '..', '..', '..', '..'), '/usr/local', '/usr']
-MODULE = ('python/couplingnut.py', 'lib/python3/dist-packages/couplingnut.py')
+MODULE = ('python/couplingnut/__init__.py', 'lib/python3/dist-packages/couplingnut/__init__.py')
 MKMAP = ('tools/mkmap', 'bin/mkmap')
 WRITE, READ, CUT = 1, 2, 3
 EFFECTS = {0: 'ignored', 1: 'in force', 2: 'waits', 3: 'setting', 4: 'transfer', 5: 'soft reset'}
@@ -20,18 +21,19 @@ class Unusable(Exception):
     """Why nothing can be read, in words for the user."""
 
 
-def _found(places):
+def _found(name, places):
     for root in ROOTS:
         for place in places:
             path = os.path.join(root, place)
             if os.path.exists(path):
                 return os.path.normpath(path)
-    raise Unusable(f'{os.path.basename(places[0])} is not there: install couplingnut')
+    raise Unusable(f'{name} is not there: install couplingnut')
 
 
 def _library():
-    spec = importlib.util.spec_from_file_location('couplingnut_library', _found(MODULE))
+    spec = importlib.util.spec_from_file_location('couplingnut_library', _found('the Python module', MODULE))
     module = importlib.util.module_from_spec(spec)
+    sys.modules[spec.name] = module  # where its files look for one another
     try:
         spec.loader.exec_module(module)
     except (OSError, AttributeError) as error:
@@ -40,7 +42,7 @@ def _library():
 
 
 def _mkmap():
-    path = _found(MKMAP)
+    path = _found('mkmap', MKMAP)
     module = types.ModuleType('mkmap')
     module.__file__ = path
     with open(path, encoding='utf-8') as source:
