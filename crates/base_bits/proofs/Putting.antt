@@ -28,8 +28,8 @@ pub record Putting (old : List ℕ) (at : ℕ) (all rest : List ℕ) (n : ℕ) (
   pub place : n + length rest ≡ at + length all
   pub whole : sets new n rest ≡ sets old at all
 
-pub begun : (old : List ℕ) (at : ℕ) (all : List ℕ) → at + length all ≤ length old → Putting old at all all at old
-begun old at all h = record { same = refl; room = h; place = refl; whole = refl }
+pub putting-begun : (old : List ℕ) (at : ℕ) (all : List ℕ) → at + length all ≤ length old → Putting old at all all at old
+putting-begun old at all h = record { same = refl; room = h; place = refl; whole = refl }
 
 -- what is to be put next, and what is left then
 pub record Splits (rest next more : List ℕ) : Type 0 where

@@ -22,7 +22,7 @@ use Rattle.bus_trace.specs.declared.scan.Progress.{Progress}
 use Rattle.bus_trace.specs.declared.scan.Bits.{Bits}
 use Rattle.bus_trace.specs.Scan.{progress, ProgressBounds, LowScanAfter, RisesAhead, LanesTaken, BitsAfter, shiftedThree, shiftedFour}
 use Rattle.bus_trace.proofs.Onward.{Going, going-begun, going-join, took-join}
-use Rattle.bus_trace.proofs.Lanes.{taken, took-rise, word-passed, gathered-begun, next-rise, gathered-more}
+use Rattle.bus_trace.proofs.Lanes.{takenBits, took-rise, word-passed, gathered-begun, next-rise, gathered-more}
 
 -- ---- the value
 
@@ -142,10 +142,23 @@ value-lt v n g k = let b : 2 ^ n ≤ 2 ^ 12 = pow-mono {i = n} {j = 12} (omega a
 abbrev pub levelOf : List ℕ → ℕ → ℕ → ℕ → Bool
 levelOf xs line i k = bitAt (getD xs (i + k) 0) line
 
+-- the value with the levels of the next rises, in every second sample: three of them, and four
+abbrev threeAt : List ℕ → ℕ → Bool → Progress → ℕ
+threeAt xs line lsb p =
+    let l = levelOf xs line (p .at) in
+    shiftedThree lsb (p .value) (p .bits) (l 1) (l 3) (l 5)
+
+abbrev fourAt : List ℕ → ℕ → Bool → Progress → ℕ
+fourAt xs line lsb p =
+    let l = levelOf xs line (p .at) in
+    shiftedFour lsb (p .value) (p .bits) (l 1) (l 3) (l 5) (l 7)
+
 module _ {xs : List ℕ} (bytes : (k : ℕ) → getD xs k 0 < 256) {line : ℕ} {lsb : Bool} {last : ℕ} {p : Progress} (s : ProgressBounds xs last p) where
   -- the rise that is lowest in a mask
-  one-more : {r : Bits} → p .at + 8 ≤ length xs → LanesTaken xs line lsb last p r → r .bits < last → (k : ℕ) → trailingZeros 64 (r .rising) / 8 ≡ k → (r .rising ≡ 0 → ⊥)
-      → LanesTaken xs line lsb last p (taken (r .bits + 1) (shiftedIn lsb (r .value) (r .bits) (bitAt (getD xs (p .at + k) 0) line)) (bitAnd (r .rising) (r .rising - 1)))
+  one-more : {r : Bits} → p .at + 8 ≤ length xs → LanesTaken xs line lsb last p r
+      → r .bits < last → (k : ℕ) → trailingZeros 64 (r .rising) / 8 ≡ k → (r .rising ≡ 0 → ⊥)
+      → LanesTaken xs line lsb last p (takenBits (r .bits + 1)
+      (shiftedIn lsb (r .value) (r .bits) (bitAt (getD xs (p .at + k) 0) line)) (bitAnd (r .rising) (r .rising - 1)))
   one-more {r} room g h k e some =
       let f = next-rise bytes room g some in
       let a : f .place ≡ k = sym (f .zeros) ∙ e in
@@ -153,26 +166,30 @@ module _ {xs : List ℕ} (bytes : (k : ℕ) → getD xs k 0 < 256) {line : ℕ} 
 
   -- four rises, one in every second sample
   module _ {rises : ℕ} (m : RisesAhead xs p rises) (dense : rises ≡ 0x0200020002000200) where
-    three : p .bits + 3 ≤ last → LanesTaken xs line lsb last p (taken (p .bits + 1 + 1 + 1) (shiftedThree lsb (p .value) (p .bits) (levelOf xs line (p .at) 1) (levelOf xs line (p .at) 3) (levelOf xs line (p .at) 5)) 0x0200000000000000)
+    three : p .bits + 3 ≤ last → LanesTaken xs line lsb last p (takenBits (p .bits + 1 + 1 + 1) (threeAt xs line lsb p) 0x0200000000000000)
     unfolding trailingZeros
     three h =
-        let g = subst (λ (k : ℕ). LanesTaken xs line lsb last p (taken (p .bits) (p .value) k)) dense (gathered-begun p s m) in
-        one-more (m .room) (one-more (m .room) (one-more (m .room) g (omega arith) 1 refl (λ z. omega (arith, z))) (omega arith) 3 refl (λ z. omega (arith, z))) (omega arith) 5 refl (λ z. omega (arith, z))
+        let g = subst (λ (k : ℕ). LanesTaken xs line lsb last p (takenBits (p .bits) (p .value) k)) dense (gathered-begun p s m) in
+        one-more (m .room) (one-more (m .room) (one-more (m .room) g (omega arith) 1 refl (λ z. omega (arith, z)))
+        (omega arith) 3 refl (λ z. omega (arith, z))) (omega arith) 5 refl (λ z. omega (arith, z))
 
-    pub dense-three : p .bits + 3 ≡ last → {v : ℕ} → v ≡ shiftedThree lsb (p .value) (p .bits) (levelOf xs line (p .at) 1) (levelOf xs line (p .at) 3) (levelOf xs line (p .at) 5)
-        → BitsAfter xs line lsb last p (taken last v 0x0200000000000000)
+    pub dense-three : p .bits + 3 ≡ last → {v : ℕ} → v ≡ threeAt xs line lsb p
+        → BitsAfter xs line lsb last p (takenBits last v 0x0200000000000000)
     dense-three e {v} ev =
         let a : p .bits + 1 + 1 + 1 ≡ last = omega (arith, e) in
-        let g : BitsAfter xs line lsb last p (taken (p .bits + 1 + 1 + 1) (shiftedThree lsb (p .value) (p .bits) (levelOf xs line (p .at) 1) (levelOf xs line (p .at) 3) (levelOf xs line (p .at) 5)) 0x0200000000000000) =
+        let g : BitsAfter xs line lsb last p (takenBits (p .bits + 1 + 1 + 1) (threeAt xs line lsb p) 0x0200000000000000) =
         record { gathered = three (omega (arith, e)); full = λ z. a } in
-        rw ev (subst (λ (k : ℕ). BitsAfter xs line lsb last p (taken k (shiftedThree lsb (p .value) (p .bits) (levelOf xs line (p .at) 1) (levelOf xs line (p .at) 3) (levelOf xs line (p .at) 5)) 0x0200000000000000)) a g)
+        rw ev (subst (λ (k : ℕ). BitsAfter xs line lsb last p (takenBits k (threeAt xs line lsb p) 0x0200000000000000)) a g)
 
-    pub dense-four : p .bits + 3 < last → {v n : ℕ} → n ≡ p .bits + 4 → v ≡ shiftedFour lsb (p .value) (p .bits) (levelOf xs line (p .at) 1) (levelOf xs line (p .at) 3) (levelOf xs line (p .at) 5) (levelOf xs line (p .at) 7)
-        → BitsAfter xs line lsb last p (taken n v 0)
+    pub dense-four : p .bits + 3 < last → {v n : ℕ} → n ≡ p .bits + 4 → v ≡ fourAt xs line lsb p
+        → BitsAfter xs line lsb last p (takenBits n v 0)
     unfolding trailingZeros
     dense-four h {v} {n} en ev =
         let a : n ≡ p .bits + 1 + 1 + 1 + 1 = omega (arith, en) in
-        rw (a, ev) (record { gathered = one-more (m .room) (three (omega (arith, h))) (omega (arith, h)) 7 refl (λ z. omega (arith, z)); full = λ z. absurd (z refl) })
+        rw (a, ev) (record {
+          gathered = one-more (m .room) (three (omega (arith, h))) (omega (arith, h)) 7 refl (λ z. omega (arith, z));
+          full = λ z. absurd (z refl);
+        })
 
 -- the four bits of a word are those of its samples
 pub nibble-at : (xs : List ℕ) → ((k : ℕ) → getD xs k 0 < 256) → (w i line : ℕ) → w ≡ wordOf xs i 8 → line < 4
@@ -204,10 +221,11 @@ masked {xs} {p} room dense =
     let d = dense-lanes (p .level) w dense in
     record { room = room; mask = sym (ap (λ (k : ℕ). risesIn k (p .level) w) (lows-all 8 w (d .0)) ∙ d .1) }
 
-module _ {xs : List ℕ} (bytes : (k : ℕ) → getD xs k 0 < 256) {line : ℕ} {lsb : Bool} {last : ℕ} {p : Progress} (s : ProgressBounds xs last p) (room : p .at + 8 ≤ length xs)
+module _ {xs : List ℕ} (bytes : (k : ℕ) → getD xs k 0 < 256) {line : ℕ} {lsb : Bool}
+    {last : ℕ} {p : Progress} (s : ProgressBounds xs last p) (room : p .at + 8 ≤ length xs)
     (dense : levelsIn 8 (wordOf xs (p .at) 8) ≡ 0x0200020002000200) where
   -- four bits of eight samples
-  four-passed : p .bits + 3 < last → {v : ℕ} → v ≡ shiftedFour lsb (p .value) (p .bits) (levelOf xs line (p .at) 1) (levelOf xs line (p .at) 3) (levelOf xs line (p .at) 5) (levelOf xs line (p .at) 7)
+  four-passed : p .bits + 3 < last → {v : ℕ} → v ≡ fourAt xs line lsb p
       → Going xs line lsb last p (progress 2 (p .bits + 4) v (p .at + 8))
   unfolding levelIn
   four-passed h {v} e =
@@ -217,7 +235,7 @@ module _ {xs : List ℕ} (bytes : (k : ℕ) → getD xs k 0 < 256) {line : ℕ} 
       (word-passed bytes (going-begun s) room (dense-four bytes s (masked room dense) refl h refl e) refl (d .0))
 
   -- the last three before the last bit
-  three-taken : p .bits + 3 ≡ last → {v : ℕ} → v ≡ shiftedThree lsb (p .value) (p .bits) (levelOf xs line (p .at) 1) (levelOf xs line (p .at) 3) (levelOf xs line (p .at) 5)
+  three-taken : p .bits + 3 ≡ last → {v : ℕ} → v ≡ threeAt xs line lsb p
       → LowScanAfter xs line lsb last p (progress 0 last v (p .at + 7))
   unfolding trailingZeros
   three-taken h e = took-rise bytes (going-begun s) room (dense-three bytes s (masked room dense) refl h e) (λ z. omega (arith, z)) 7 refl
@@ -233,29 +251,21 @@ Three lsb v n more r = (a b c d : Bool) → more ≡ nibble a b c d → r ≡ sh
 abbrev NibbleOf : ℕ → ℕ → ℕ → Type 0
 NibbleOf w line x = x ≡ nibble (bitAt w (8 + line)) (bitAt w (24 + line)) (bitAt w (40 + line)) (bitAt w (56 + line))
 
--- sixteen samples of eight bits
-module _ {xs : List ℕ} (bytes : (k : ℕ) → getD xs k 0 < 256) {line : ℕ} (h : line < 4) {lsb : Bool} {last : ℕ} {p₀ p : Progress} (g : Going xs line lsb last p₀ p) (room : p .at + 16 ≤ length xs)
-    {w u : ℕ} (ew : w ≡ wordOf xs (p .at) 8) (eu : u ≡ wordOf xs (p .at + 8) 8) (dw : levelsIn 8 w ≡ 0x0200020002000200) (du : levelsIn 8 u ≡ 0x0200020002000200)
-    (few : p .bits + 7 ≤ last) {x v : ℕ} (ex : NibbleOf w line x) (ev : Four lsb (p .value) (p .bits) x v) where
-  pub half : Going xs line lsb last p₀ (progress 2 (p .bits + 4) v (p .at + 8))
-  half =
+-- eight samples of four bits, in a word
+module _ {xs : List ℕ} (bytes : (k : ℕ) → getD xs k 0 < 256) {line : ℕ} (h : line < 4) {lsb : Bool} {last : ℕ} {p₀ p : Progress}
+    (g : Going xs line lsb last p₀ p) (room : p .at + 8 ≤ length xs)
+    {w : ℕ} (ew : w ≡ wordOf xs (p .at) 8) (dense : levelsIn 8 w ≡ 0x0200020002000200) {x : ℕ} (ex : NibbleOf w line x) {v at : ℕ} where
+  -- all four are taken
+  pub four-more : p .bits + 3 < last → Four lsb (p .value) (p .bits) x v → {n : ℕ} → n ≡ p .bits + 4 → at ≡ p .at + 8
+      → Going xs line lsb last p₀ (progress 2 n v at)
+  four-more few ev en ea =
       let l = levelOf xs line (p .at) in
-      going-join g (four-passed bytes (g .standing) (omega arith) (ap (levelsIn 8) (sym ew) ∙ dw) (omega arith) (ev (l 1) (l 3) (l 5) (l 7) (ex ∙ nibble-at xs bytes w (p .at) line ew h)))
+      let value = ev (l 1) (l 3) (l 5) (l 7) (ex ∙ nibble-at xs bytes w (p .at) line ew h) in
+      rw (en, ea) (going-join g (four-passed bytes (g .standing) room (ap (levelsIn 8) (sym ew) ∙ dense) few value))
 
-  module _ {y z : ℕ} (ey : NibbleOf u line y) where
-    pub seven-taken : p .bits + 7 ≡ last → Three lsb v (p .bits + 4) y z → LowScanAfter xs line lsb last p₀ (progress 0 last z (p .at + 15))
-    seven-taken e ez =
-        let l = levelOf xs line (p .at + 8) in
-        let a : p .at + 8 + 7 ≡ p .at + 15 = omega arith in
-        subst (λ (k : ℕ). LowScanAfter xs line lsb last p₀ (progress 0 last z k)) a
-        (took-join half
-        (three-taken bytes (half .standing) (omega arith) (ap (levelsIn 8) (sym eu) ∙ du) (omega (arith, e)) (ez (l 1) (l 3) (l 5) (l 7) (ey ∙ nibble-at xs bytes u (p .at + 8) line eu h))))
-
-    pub eight-passed : (p .bits + 7 ≡ last → ⊥) → Four lsb v (p .bits + 4) y z → Going xs line lsb last p₀ (progress 2 (p .bits + 8) z (p .at + 16))
-    eight-passed n ez =
-        let l = levelOf xs line (p .at + 8) in
-        let a : p .at + 8 + 8 ≡ p .at + 16 = omega arith in
-        let b : p .bits + 4 + 4 ≡ p .bits + 8 = omega arith in
-        subst (λ (q : Progress). Going xs line lsb last p₀ q) (λ t. progress 2 (b t) z (a t))
-        (going-join half
-        (four-passed bytes (half .standing) (omega arith) (ap (levelsIn 8) (sym eu) ∙ du) (omega (arith, n)) (ez (l 1) (l 3) (l 5) (l 7) (ey ∙ nibble-at xs bytes u (p .at + 8) line eu h))))
+  -- three are, and then comes the last bit
+  pub three-more : p .bits + 3 ≡ last → Three lsb (p .value) (p .bits) x v → at ≡ p .at + 7 → LowScanAfter xs line lsb last p₀ (progress 0 last v at)
+  three-more few ev ea =
+      let l = levelOf xs line (p .at) in
+      let value = ev (l 1) (l 3) (l 5) (l 7) (ex ∙ nibble-at xs bytes w (p .at) line ew h) in
+      rw ea (took-join g (three-taken bytes (g .standing) room (ap (levelsIn 8) (sym ew) ∙ dense) few value))

@@ -17,7 +17,6 @@ use Rattle.bus_words.proofs.Samples.{rises-sample, lows-low, lows-high, level-i
 use Rattle.bus_trace.specs.declared.scan.Progress.{Progress}
 use Rattle.bus_trace.specs.declared.scan.Bits.{Bits}
 use Rattle.bus_trace.specs.Scan.{progress, Onward, ProgressBounds, LowScanAfter, levelAfter, lowsAt, RisesAhead, LanesTaken, BitsAfter}
-use Rattle.bus_trace.proofs.Progress.{bit}
 use Rattle.bus_trace.proofs.Onward.{still-there, onward-join, onward-idle, onward-bit, standing-bit, Going, took-high, took-last}
 
 abbrev maskOf : List ℕ → ℕ → ℕ → ℕ → ℕ → ℕ
@@ -54,9 +53,11 @@ zero-left (suc a) b h e = absurd (omega (arith, e, mul-pos {m = suc a} {n = b} (
 
 module _ {xs : List ℕ} (bytes : (k : ℕ) → getD xs k 0 < 256) {line : ℕ} {lsb : Bool} {last : ℕ} where
   -- the first sample gives the rise, or it is one of the others
-  first-step : (n k : ℕ) (p : Progress) → Level (p .level) → p .at < length xs → getD xs (p .at) 0 % 2 ≡ 0 → (d : ℕ) → clockOf (getD xs (p .at) 0) - p .level ≡ d
+  first-step : (n k : ℕ) (p : Progress) → Level (p .level) → p .at < length xs
+      → getD xs (p .at) 0 % 2 ≡ 0 → (d : ℕ) → clockOf (getD xs (p .at) 0) - p .level ≡ d
       → (maskOf xs (suc n) (p .level) (p .at) (suc k) ≡ 0 → ⊥)
-      → ((maskOf xs n (getD xs (p .at) 0 % 4) (p .at + 1) k ≡ 0 → ⊥) → First xs line lsb last n k (progress (getD xs (p .at) 0 % 4) (p .bits) (p .value) (p .at + 1)))
+      → ((maskOf xs n (getD xs (p .at) 0 % 4) (p .at + 1) k ≡ 0 → ⊥)
+      → First xs line lsb last n k (progress (getD xs (p .at) 0 % 4) (p .bits) (p .value) (p .at + 1)))
       → First xs line lsb last (suc n) (suc k) p
   first-step n k p hl h low zero e some others =
       let i = p .at in
@@ -67,11 +68,15 @@ module _ {xs : List ℕ} (bytes : (k : ℕ) → getD xs k 0 < 256) {line : ℕ} 
       let f = others (λ (z : maskOf xs n (x % 4) (i + 1) k ≡ 0). some (omega (arith, parts, z))) in
       let j = f .passed in
       let a : i + 1 + j ≡ i + suc j = omega arith in
-      let q = mask-same xs {n = n - suc j} {n′ = suc n - suc (suc j)} {l = 2} {i = i + 1 + suc j} {i′ = i + suc (suc j)} {k = k - suc j} {k′ = suc k - suc (suc j)} (omega arith) refl (omega arith) (omega arith) in
+      let q =
+      mask-same xs {n = n - suc j} {n′ = suc n - suc (suc j)} {l = 2} {i = i + 1 + suc j} {i′ = i + suc (suc j)}
+      {k = k - suc j} {k′ = suc k - suc (suc j)} (omega arith) refl (omega arith) (omega arith) in
       record {
         passed = suc j;
         inside = omega (arith, f .inside);
-        reach = onward-join (onward-idle p h low (omega (arith, e, same))) (subst (λ (m : ℕ). Onward xs line lsb last (progress (x % 4) (p .bits) (p .value) (i + 1)) (progress 0 (p .bits) (p .value) m)) a (f .reach));
+        reach =
+            onward-join (onward-idle p h low (omega (arith, e, same)))
+            (subst (λ (m : ℕ). Onward xs line lsb last (progress (x % 4) (p .bits) (p .value) (i + 1)) (progress 0 (p .bits) (p .value) m)) a (f .reach));
         high = subst (λ (m : ℕ). getD xs m 0 % 4 ≡ 2) a (f .high);
         mask =
             parts ∙ ap (λ (m : ℕ). m * 256) (f .mask) ∙ mul-assoc _ (2 ^ (8 * j + 1)) 256
@@ -85,7 +90,9 @@ module _ {xs : List ℕ} (bytes : (k : ℕ) → getD xs k 0 < 256) {line : ℕ} 
       let none : p .level ≡ 0 = omega (arith, e, hl .even, two) in
       let parts : maskOf xs (suc n) (p .level) i (suc k) ≡ maskOf xs n 2 (i + 1) k * 256 + 2 =
       rises-sample xs bytes n (p .level) i k ∙ ap₂ (λ (d r : ℕ). maskOf xs n d (i + 1) k * 256 + r) two (omega (arith, two, none)) in
-      let q = mask-same xs {n = n} {n′ = suc n - suc 0} {l = 2} {i = i + 1} {i′ = i + suc 0} {k = k} {k′ = suc k - suc 0} (omega arith) refl (omega arith) (omega arith) in
+      let q =
+      mask-same xs {n = n} {n′ = suc n - suc 0} {l = 2} {i = i + 1} {i′ = i + suc 0}
+      {k = k} {k′ = suc k - suc 0} (omega arith) refl (omega arith) (omega arith) in
       record {
         passed = 0;
         inside = omega arith;
@@ -103,7 +110,8 @@ module _ {xs : List ℕ} (bytes : (k : ℕ) → getD xs k 0 < 256) {line : ℕ} 
       let e = rw add-zero at (low 0 (omega arith)) in
       let x = getD xs (p .at) 0 in
       first-step n k p hl (omega arith) e (clockOf x - p .level) refl some
-      (λ z. first-rise n k (progress (x % 4) (p .bits) (p .value) (p .at + 1)) (record { even = omega (arith, e); small = omega arith }) (omega arith) (omega arith)
+      (λ z. first-rise n k (progress (x % 4) (p .bits) (p .value) (p .at + 1))
+      (record { even = omega (arith, e); small = omega arith }) (omega arith) (omega arith)
       (λ j g. let a : p .at + suc j ≡ p .at + 1 + j = omega arith in rw a at (low (suc j) (omega arith))) z)
 
   rest-none : (p : Progress) → Onward xs line lsb last p (progress (levelAfter xs (p .at) (p .level) 0) (p .bits) (p .value) (p .at + 0))
@@ -138,12 +146,12 @@ level-join xs i l j (suc n) =
     let a : i + j + n ≡ i + (j + n) = omega arith in
     ap (λ (m : ℕ). clockOf (getD xs m 0)) a ∙ ap (levelAfter xs i l) e
 
-abbrev pub taken : ℕ → ℕ → ℕ → Bits
-taken bits value rising = record { bits = bits; value = value; rising = rising }
+abbrev pub takenBits : ℕ → ℕ → ℕ → Bits
+takenBits bits value rising = record { bits = bits; value = value; rising = rising }
 
 -- at first all rises are left
 pub gathered-begun : {xs : List ℕ} {line : ℕ} {lsb : Bool} {last rises : ℕ} (p : Progress) → ProgressBounds xs last p → RisesAhead xs p rises
-    → LanesTaken xs line lsb last p (taken (p .bits) (p .value) rises)
+    → LanesTaken xs line lsb last p (takenBits (p .bits) (p .value) rises)
 unfolding levelAfter
 gathered-begun {xs} {rises = rises} p s m =
     let i = p .at in
@@ -153,7 +161,8 @@ gathered-begun {xs} {rises = rises} p s m =
       near = omega arith;
       left =
           m .mask
-          ∙ mask-same xs {n = lowsAt xs i} {n′ = lowsAt xs i - 0} {l = p .level} {i = i} {i′ = i + 0} {k = 8} {k′ = 8 - 0} (omega arith) refl (omega arith) (omega arith)
+          ∙ mask-same xs {n = lowsAt xs i} {n′ = lowsAt xs i - 0} {l = p .level} {i = i}
+          {i′ = i + 0} {k = 8} {k′ = 8 - 0} (omega arith) refl (omega arith) (omega arith)
           ∙ omega arith;
       onward = rw (add-zero i) still-there;
       standing = rw (add-zero i) s;
@@ -191,22 +200,29 @@ module _ {xs : List ℕ} (bytes : (k : ℕ) → getD xs k 0 < 256) {line : ℕ} 
       let j₀ = g .lane in
       let l = levelAfter xs i (p .level) j₀ in
       let few = lows-le 8 (wordOf xs i 8) in
-      let f = first-rise bytes {line = line} {lsb = lsb} {last = last} (n - j₀) (8 - j₀) (progress l (r .bits) (r .value) (i + j₀)) (g .standing .level) (omega (arith, few)) (omega (arith, few, g .near)) low-lane
+      let f =
+      first-rise bytes {line = line} {lsb = lsb} {last = last} (n - j₀) (8 - j₀) (progress l (r .bits) (r .value) (i + j₀))
+      (g .standing .level) (omega (arith, few)) (omega (arith, few, g .near)) low-lane
       (λ (z : maskOf xs (n - j₀) l (i + j₀) (8 - j₀) ≡ 0). some (g .left ∙ ap (λ (m : ℕ). m * 2 ^ (8 * j₀)) z ∙ omega arith)) in
       let j = f .passed in
       let q = maskOf xs (n - j₀ - suc j) 2 (i + j₀ + suc j) (8 - j₀ - suc j) in
       let t = 8 * (j₀ + j) + 1 in
       let pw : 2 ^ (8 * j + 1) * 2 ^ (8 * j₀) ≡ 2 ^ t = sym (ap (λ (m : ℕ). 2 ^ m) (omega arith) ∙ pow-add 2 (8 * j + 1) (8 * j₀)) in
       let e : r .rising ≡ (q * 64 * 2 + 1) * 2 ^ t =
-      g .left ∙ ap (λ (m : ℕ). m * 2 ^ (8 * j₀)) (f .mask) ∙ mul-assoc (q * 128 + 1) (2 ^ (8 * j + 1)) (2 ^ (8 * j₀)) ∙ ap (λ (m : ℕ). (q * 128 + 1) * m) pw ∙ odd-mask q (j₀ + j) in
+      g .left ∙ ap (λ (m : ℕ). m * 2 ^ (8 * j₀)) (f .mask) ∙ mul-assoc (q * 128 + 1) (2 ^ (8 * j + 1)) (2 ^ (8 * j₀))
+      ∙ ap (λ (m : ℕ). (q * 128 + 1) * m) pw ∙ odd-mask q (j₀ + j) in
       let tz = ap (trailingZeros 64) e ∙ zeros-lowest (q * 64) t (omega (arith, f .inside, few, g .near)) in
       let a : i + j₀ + j ≡ i + (j₀ + j) = omega arith in
-      let s = mask-same xs {n = n - j₀ - suc j} {n′ = n - suc (j₀ + j)} {l = 2} {i = i + j₀ + suc j} {i′ = i + suc (j₀ + j)} {k = 8 - j₀ - suc j} {k′ = 8 - suc (j₀ + j)} (omega arith) refl (omega arith) (omega arith) in
+      let s =
+      mask-same xs {n = n - j₀ - suc j} {n′ = n - suc (j₀ + j)} {l = 2} {i = i + j₀ + suc j} {i′ = i + suc (j₀ + j)}
+      {k = 8 - j₀ - suc j} {k′ = 8 - suc (j₀ + j)} (omega arith) refl (omega arith) (omega arith) in
       record {
         place = j₀ + j;
         inside = omega (arith, f .inside, g .near);
         zeros = omega (arith, tz);
-        reach = onward-join (g .onward) (subst (λ (m : ℕ). Onward xs line lsb last (progress l (r .bits) (r .value) (i + j₀)) (progress 0 (r .bits) (r .value) m)) a (f .reach));
+        reach =
+            onward-join (g .onward) (subst (λ (m : ℕ). Onward xs line lsb last
+            (progress l (r .bits) (r .value) (i + j₀)) (progress 0 (r .bits) (r .value) m)) a (f .reach));
         high = subst (λ (m : ℕ). getD xs m 0 % 4 ≡ 2) a (f .high);
         rest = ap₂ (λ (a b : ℕ). bitAnd a (b - 1)) e e ∙ without-lowest (q * 64) t ∙ above-mask q (j₀ + j) ∙ ap (λ (m : ℕ). m * 2 ^ (8 * suc (j₀ + j))) s;
       }
@@ -223,7 +239,8 @@ module _ {xs : List ℕ} (bytes : (k : ℕ) → getD xs k 0 < 256) {line : ℕ} 
 
   -- its bit is taken
   pub gathered-more : (f : Rise xs line lsb last p r) → r .bits < last
-      → LanesTaken xs line lsb last p (taken (r .bits + 1) (shiftedIn lsb (r .value) (r .bits) (bitAt (getD xs (p .at + f .place) 0) line)) (bitAnd (r .rising) (r .rising - 1)))
+      → LanesTaken xs line lsb last p (takenBits (r .bits + 1)
+      (shiftedIn lsb (r .value) (r .bits) (bitAt (getD xs (p .at + f .place) 0) line)) (bitAnd (r .rising) (r .rising - 1)))
   unfolding levelAfter
   gathered-more f h =
       let i = p .at in
@@ -237,12 +254,15 @@ module _ {xs : List ℕ} (bytes : (k : ℕ) → getD xs k 0 < 256) {line : ℕ} 
       let v = shiftedIn lsb (r .value) (r .bits) (bitAt x line) in
       let a : i + j + 1 ≡ i + suc j = omega arith in
       let here : i + j < length xs = omega (arith, f .inside, few) in
-      let same : progress (x % 4) (r .bits + 1) v (i + j + 1) ≡ progress (clockOf x) (r .bits + 1) v (i + suc j) = λ t. progress (four t) (r .bits + 1) v (a t) in
+      let same : progress (x % 4) (r .bits + 1) v (i + j + 1) ≡ progress (clockOf x) (r .bits + 1) v (i + suc j) =
+      λ t. progress (four t) (r .bits + 1) v (a t) in
       record {
         lane = suc j;
         near = f .inside;
         left = f .rest ∙ ap (λ (l : ℕ). maskOf xs (lowsAt xs i - suc j) l (i + suc j) (8 - suc j) * 2 ^ (8 * suc j)) (sym two);
-        onward = subst (λ (q : Progress). Onward xs line lsb last p q) same (onward-join (f .reach) (onward-bit (progress 0 (r .bits) (r .value) (i + j)) here low (omega (arith, f .high)) h));
+        onward =
+            subst (λ (q : Progress). Onward xs line lsb last p q) same
+            (onward-join (f .reach) (onward-bit (progress 0 (r .bits) (r .value) (i + j)) here low (omega (arith, f .high)) h));
         standing = subst (λ (q : Progress). ProgressBounds xs last q) same (standing-bit lsb (bitAt x line) (at-rise f) here low h);
       }
 
@@ -256,11 +276,14 @@ module _ {xs : List ℕ} (bytes : (k : ℕ) → getD xs k 0 < 256) {line : ℕ} 
       let l = levelAfter xs i (p .level) j in
       let few = lows-le 8 (wordOf xs i 8) in
       let z : maskOf xs (n - j) l (i + j) (8 - j) ≡ 0 = zero-left _ (2 ^ (8 * j)) (pow-pos (8 * j)) (sym (g .left) ∙ none) in
-      let o = rest-idle bytes {line = line} {lsb = lsb} {last = last} (n - j) (8 - j) (progress l (r .bits) (r .value) (i + j)) (g .standing .level) (omega (arith, few)) (omega (arith, few, g .near)) low-lane z in
+      let o =
+      rest-idle bytes {line = line} {lsb = lsb} {last = last} (n - j) (8 - j) (progress l (r .bits) (r .value) (i + j))
+      (g .standing .level) (omega (arith, few)) (omega (arith, few, g .near)) low-lane z in
       let b : j + (n - j) ≡ n = omega (arith, g .near) in
       let a : i + j + (n - j) ≡ i + n = omega (arith, g .near) in
       let s = level-join xs i (p .level) j (n - j) ∙ ap (levelAfter xs i (p .level)) b in
-      onward-join (g .onward) (subst (λ (y : Progress). Onward xs line lsb last (progress l (r .bits) (r .value) (i + j)) y) (λ t. progress (s t) (r .bits) (r .value) (a t)) o)
+      onward-join (g .onward) (subst (λ (y : Progress). Onward xs line lsb last (progress l (r .bits) (r .value) (i + j)) y)
+      (λ t. progress (s t) (r .bits) (r .value) (a t)) o)
 
 pub level-good : (xs : List ℕ) (i l n : ℕ) → Level l → Level (levelAfter xs i l n)
 unfolding levelAfter
@@ -288,7 +311,8 @@ module _ {xs : List ℕ} (bytes : (k : ℕ) → getD xs k 0 < 256) {line : ℕ} 
       omega (arith, e, r .zeros, r .inside, lows-le 8 (wordOf xs (p .at) 8))
 
   -- it ends at a rise
-  pub took-rise : (b .rising ≡ 0 → ⊥) → (k : ℕ) → k ≡ trailingZeros 64 (b .rising) / 8 → LowScanAfter xs line lsb last p₀ (progress 0 (b .bits) (b .value) (p .at + k))
+  pub took-rise : (b .rising ≡ 0 → ⊥) → (k : ℕ) → k ≡ trailingZeros 64 (b .rising) / 8
+      → LowScanAfter xs line lsb last p₀ (progress 0 (b .bits) (b .value) (p .at + k))
   took-rise some k e =
       let r = next-rise bytes room (f .gathered) some in
       let at : r .place ≡ k = sym (e ∙ r .zeros) in
@@ -297,7 +321,8 @@ module _ {xs : List ℕ} (bytes : (k : ℕ) → getD xs k 0 < 256) {line : ℕ} 
       rw at at (took-last up (f .full some) (omega (arith, r .high)))
 
   -- no rise is left in it
-  passed : b .rising ≡ 0 → (k l : ℕ) → k ≡ lowsAt xs (p .at) → l ≡ levelAfter xs (p .at) (p .level) k → Going xs line lsb last p₀ (progress l (b .bits) (b .value) (p .at + k))
+  passed : b .rising ≡ 0 → (k l : ℕ) → k ≡ lowsAt xs (p .at) → l ≡ levelAfter xs (p .at) (p .level) k
+      → Going xs line lsb last p₀ (progress l (b .bits) (b .value) (p .at + k))
   passed none k l ek el =
       let s = f .gathered .standing in
       rw (el, ek)
@@ -313,7 +338,8 @@ module _ {xs : List ℕ} (bytes : (k : ℕ) → getD xs k 0 < 256) {line : ℕ} 
       })
 
   -- it goes on after eight samples
-  pub word-passed : b .rising ≡ 0 → highsIn 8 (wordOf xs (p .at) 8) ≡ 0 → Going xs line lsb last p₀ (progress (bitAnd (getD xs (p .at + 7) 0) 2) (b .bits) (b .value) (p .at + 8))
+  pub word-passed : b .rising ≡ 0 → highsIn 8 (wordOf xs (p .at) 8) ≡ 0
+      → Going xs line lsb last p₀ (progress (bitAnd (getD xs (p .at + 7) 0) 2) (b .bits) (b .value) (p .at + 8))
   word-passed none z = passed none 8 _ (sym (lows-all 8 (wordOf xs (p .at) 8) z)) (sym (level-eight xs (p .at) (p .level)))
 
   -- it ends where CSB is high

@@ -34,16 +34,19 @@ module _ {xs : List ℕ} {line : ℕ} {lsb : Bool} {last : ℕ} where
 
     -- a rise: one bit more
     pub onward-bit : p .level < getD xs (p .at) 0 % 4 → p .bits < last
-        → Onward xs line lsb last p (progress (getD xs (p .at) 0 % 4) (p .bits + 1) (shiftedIn lsb (p .value) (p .bits) (bitAt (getD xs (p .at) 0) line)) (p .at + 1))
+        → Onward xs line lsb last p (progress (getD xs (p .at) 0 % 4) (p .bits + 1)
+        (shiftedIn lsb (p .value) (p .bits) (bitAt (getD xs (p .at) 0) line)) (p .at + 1))
     onward-bit k b = record { ahead = omega arith; carried = λ v r. rw (v .line-is, v .order-is) (bit _ (v .low) r h low k (omega (arith, b, v .last-is))) }
 
 -- ---- pieces that may be reached
 
 pub standing-idle : {xs : List ℕ} {last : ℕ} {p : Progress} → ProgressBounds xs last p → p .at < length xs → getD xs (p .at) 0 % 2 ≡ 0
     → ProgressBounds xs last (progress (getD xs (p .at) 0 % 4) (p .bits) (p .value) (p .at + 1))
-standing-idle s h e = record { level = record { even = omega arith; small = omega arith }; within = omega arith; few = s .few; short = s .short; small = s .small }
+standing-idle s h e =
+    record { level = record { even = omega arith; small = omega arith }; within = omega arith; few = s .few; short = s .short; small = s .small }
 
-pub standing-bit : {xs : List ℕ} {last : ℕ} {p : Progress} (lsb b : Bool) → ProgressBounds xs last p → p .at < length xs → getD xs (p .at) 0 % 2 ≡ 0 → p .bits < last
+pub standing-bit : {xs : List ℕ} {last : ℕ} {p : Progress} (lsb b : Bool)
+    → ProgressBounds xs last p → p .at < length xs → getD xs (p .at) 0 % 2 ≡ 0 → p .bits < last
     → ProgressBounds xs last (progress (getD xs (p .at) 0 % 4) (p .bits + 1) (shiftedIn lsb (p .value) (p .bits) b) (p .at + 1))
 standing-bit {p = p} lsb b s h e k = record {
   level = record { even = omega arith; small = omega arith };
@@ -71,7 +74,8 @@ module _ {xs : List ℕ} {line : ℕ} {lsb : Bool} {last : ℕ} {p q : Progress}
   going-idle h e k = record { onward = onward-join (g .onward) (onward-idle q h e k); standing = standing-idle (g .standing) h e }
 
   pub going-bit : q .at < length xs → getD xs (q .at) 0 % 2 ≡ 0 → q .level < getD xs (q .at) 0 % 4 → (q .bits ≡ last → ⊥)
-      → Going xs line lsb last p (progress (getD xs (q .at) 0 % 4) (q .bits + 1) (shiftedIn lsb (q .value) (q .bits) (bitAt (getD xs (q .at) 0) line)) (q .at + 1))
+      → Going xs line lsb last p (progress (getD xs (q .at) 0 % 4) (q .bits + 1)
+      (shiftedIn lsb (q .value) (q .bits) (bitAt (getD xs (q .at) 0) line)) (q .at + 1))
   going-bit h e k n =
       let b : q .bits < last = omega (arith, n, g .standing .few) in
       record { onward = onward-join (g .onward) (onward-bit q h e k b); standing = standing-bit lsb (bitAt (getD xs (q .at) 0) line) (g .standing) h e b }

@@ -9,7 +9,6 @@ use Rattle.base_chip.specs.declared.Chip.{Chip}
 use Rattle.bus_session.specs.declared.Phase.{Phase}
 use Rattle.bus_session.specs.declared.Phase.the-variants.{Rest, Instruction, Data}
 use Rattle.bus_session.specs.declared.Port.{Port}
-use Rattle.bus_session.specs.declared.Event.{Event}
 use Rattle.bus_session.specs.declared.Event.the-variants.{Nothing, Whole}
 use Rattle.bus_session.specs.Step.{sdioOf, frameStarts, frameEnds, takesBit, valueWith, dataLine, withInstructionBit, withDataBit, withBit, stepOf}
 use Rattle.bus_session.specs.State.{isData}
@@ -35,7 +34,8 @@ module _ (c : Chip) where
   unfolding withInstructionBit
   bit-settings Rest s x e = refl
   bit-settings Instruction s x e =
-      each (λ (t : Port). t .settings ≡ s .settings) (ltb (s .bits) 15) (λ h. refl) (λ h. entered-settings c (valueWith s (sdioOf x)) (s .settings) (s .«in_use»))
+      each (λ (t : Port). t .settings ≡ s .settings) (ltb (s .bits) 15) (λ h. refl)
+      (λ h. entered-settings c (valueWith s (sdioOf x)) (s .settings) (s .«in_use»))
   bit-settings Data s x e = data-settings s x (ltb (s .bits) 7) refl e
 
   -- without an event no setting changes

@@ -130,14 +130,16 @@ module _ (c : Chip) where
     pub bit-taken : p .level < x % 4 → takesBit (withProgress s p) x ≡ true
     bit-taken h = bit-test ∙ rise (p .level) (x % 4) (omega arith) (omega arith) h (good .even)
 
-    idle-step : x % 4 ≤ p .level → (stepOf c (withProgress s p) x ≡ withProgress s (progress (x % 4) (p .bits) (p .value) (p .at + 1))) × (eventOf c (withProgress s p) x ≡ Nothing)
+    idle-step : x % 4 ≤ p .level → (stepOf c (withProgress s p) x ≡ withProgress s (progress (x % 4) (p .bits) (p .value) (p .at + 1)))
+        × (eventOf c (withProgress s p) x ≡ Nothing)
     idle-step h =
         let b = bit-test ∙ no-rise (p .level) (x % 4) (good .even) (good .level) h in
         let r = stays (withProgress s p) x (rw low) b (rw (low, csb-low x e)) in
         (r .0 ∙ rw (low, csb-low x e, sclk-level x (x % 4) (omega arith)), r .1)
 
     bit-step : p .level < x % 4 → p .bits < lastOf (s .phase)
-        → (stepOf c (withProgress s p) x ≡ withProgress s (progress (x % 4) (p .bits + 1) (shiftedIn (s .«in_use» .«lsb_first») (p .value) (p .bits) (bitAt x (sourceLine c s))) (p .at + 1)))
+        → (stepOf c (withProgress s p) x ≡ withProgress s
+        (progress (x % 4) (p .bits + 1) (shiftedIn (s .«in_use» .«lsb_first») (p .value) (p .bits) (bitAt x (sourceLine c s))) (p .at + 1)))
         × (eventOf c (withProgress s p) x ≡ Nothing)
     bit-step h k =
         let b = bit-taken h in
@@ -146,7 +148,8 @@ module _ (c : Chip) where
 
   -- a step that gives a progress and no event
   stepped : {xs : List ℕ} {s : Port} {i : ℕ} {p : Progress} (q : Progress) → Reached c xs s i p → p .at < length xs → q .at ≡ p .at + 1
-      → q .level % 2 ≡ 0 → q .level < 4 → (stepOf c (withProgress s p) (getD xs (p .at) 0) ≡ withProgress s q) × (eventOf c (withProgress s p) (getD xs (p .at) 0) ≡ Nothing)
+      → q .level % 2 ≡ 0 → q .level < 4 → (stepOf c (withProgress s p) (getD xs (p .at) 0) ≡ withProgress s q)
+      × (eventOf c (withProgress s p) (getD xs (p .at) 0) ≡ Nothing)
       → Reached c xs s i q
   stepped {xs} {s} {i} {p} q r h a ev lv e = record {
     ahead = omega (arith, r .ahead);
@@ -154,10 +157,6 @@ module _ (c : Chip) where
     good = record { even = ev; level = lv; sound = rw (e .0) at (sound-step c (withProgress s p) (getD xs (p .at) 0) (r .good .sound)) };
     path = rw (e .0, sym a) at (more (r .path) h (e .1));
   }
-
-  -- the start: a progress as a port has it
-  pub begun : {xs : List ℕ} {s : Port} (p : Progress) → SoundProgress c s p → p .at < length xs → Reached c xs (withProgress s p) (p .at) p
-  begun p a h = record { ahead = omega arith; within = omega (arith, h); good = record { even = a .even; level = a .level; sound = a .sound }; path = still }
 
   -- the progress of a port itself
   pub own : {xs : List ℕ} {s : Port} (p : Progress) → soundPort c s ≡ true → p .at ≤ length xs
@@ -180,13 +179,16 @@ module _ (c : Chip) where
         → Reached c xs s i (progress (getD xs (p .at) 0 % 4) (p .bits) (p .value) (p .at + 1))
     idle {p} r h e k = stepped _ r h refl (omega arith) (omega arith) (idle-step s p (getD xs (p .at) 0) low e (r .good) k)
 
-    pub bit : {p : Progress} → Reached c xs s i p → p .at < length xs → getD xs (p .at) 0 % 2 ≡ 0 → p .level < getD xs (p .at) 0 % 4 → p .bits < lastOf (s .phase)
-        → Reached c xs s i (progress (getD xs (p .at) 0 % 4) (p .bits + 1) (shiftedIn (s .«in_use» .«lsb_first») (p .value) (p .bits) (bitAt (getD xs (p .at) 0) (sourceLine c s))) (p .at + 1))
+    pub bit : {p : Progress} → Reached c xs s i p → p .at < length xs
+        → getD xs (p .at) 0 % 2 ≡ 0 → p .level < getD xs (p .at) 0 % 4 → p .bits < lastOf (s .phase)
+        → Reached c xs s i (progress (getD xs (p .at) 0 % 4) (p .bits + 1)
+        (shiftedIn (s .«in_use» .«lsb_first») (p .value) (p .bits) (bitAt (getD xs (p .at) 0) (sourceLine c s))) (p .at + 1))
     bit {p} r h e k b = stepped _ r h refl (omega arith) (omega arith) (bit-step s p (getD xs (p .at) 0) low e (r .good) k b)
 
   -- CSB high before and now
   module _ (s : Port) (p : Progress) (x : ℕ) (up : s .csb ≡ true) (e : x % 2 ≡ 1) where
-    high-step : (stepOf c (withProgress s p) x ≡ withProgress s (progress (x % 4 - 1) (p .bits) (p .value) (p .at + 1))) × (eventOf c (withProgress s p) x ≡ Nothing)
+    high-step : (stepOf c (withProgress s p) x ≡ withProgress s (progress (x % 4 - 1) (p .bits) (p .value) (p .at + 1)))
+        × (eventOf c (withProgress s p) x ≡ Nothing)
     high-step =
         let r = stays (withProgress s p) x (rw (up, csb-high x e)) (rw up) (rw up) in
         (r .0 ∙ rw (up, csb-high x e, sclk-level x (x % 4 - 1) (omega arith)), r .1)

@@ -30,7 +30,8 @@ resting-begun {xs} l i h =
 
 module _ {xs : List ℕ} {l₀ i l j : ℕ} (r : Resting xs l₀ i l j) where
   -- so many more, the last of which has the level
-  pub resting-more : (n : ℕ) → j + suc n ≤ length xs → ((k : ℕ) → k < suc n → getD xs (j + k) 0 % 2 ≡ 1) → Resting xs l₀ i (bitAnd (getD xs (j + n) 0) 2) (j + suc n)
+  pub resting-more : (n : ℕ) → j + suc n ≤ length xs → ((k : ℕ) → k < suc n → getD xs (j + k) 0 % 2 ≡ 1)
+      → Resting xs l₀ i (bitAnd (getD xs (j + n) 0) 2) (j + suc n)
   unfolding levelAfter
   resting-more n h f =
       let a : j + n ≡ i + (j - i + n) = omega (arith, r .high .ahead) in
@@ -88,7 +89,8 @@ module _ {xs : List ℕ} {l₀ i l j : ℕ} (r : Resting xs l₀ i l j) where
         omega (arith, full, lows-le 8 (others xs j 8))
 
     -- up to the first of them that has it low
-    pub rested-word : (highsIn 8 (others xs j 8) ≡ 0 → ⊥) → (k m : ℕ) → k ≡ lowsIn 8 (others xs j 8) → m ≡ levelIn k l (wordOf xs j 8) → Rested xs l₀ i (past (j + k) m)
+    pub rested-word : (highsIn 8 (others xs j 8) ≡ 0 → ⊥) → (k m : ℕ) → k ≡ lowsIn 8 (others xs j 8)
+        → m ≡ levelIn k l (wordOf xs j 8) → Rested xs l₀ i (past (j + k) m)
     rested-word some k m ek em =
         let g = fall-inside some in
         record {

@@ -25,7 +25,7 @@ use Rattle.several_chips.specs.declared.Member.{Member}
 use Rattle.several_chips.specs.Members.{stateOf, statesOf, placedAll}
 use Rattle.several_chips.specs.Numbers.{rangesOf, severalNumber}
 use Rattle.several_chips.specs.Calls.{SeveralOutcome, severalOutcome, doneOf, severalOf}
-use Rattle.several_chips.proofs.Accepted.{accepted}
+use Rattle.several_chips.proofs.SeveralTests.{several-tests}
 use Rattle.several_chips.proofs.Kept.{banks-sized}
 use Rattle.several_chips.proofs.Listed.{with-at, state-back}
 use Rattle.several_chips.proofs.Memory.{AllRanged, AllMapped, own-banks, all-mapped}
@@ -227,7 +227,7 @@ pub as-if-alone : AsIfAlone
 unfolding doneOf
 as-if-alone m ws mem bytes old words k d zero-number h =
     let number = number-zero m ws mem bytes old zero-number in
-    let ok = accepted m ws (length mem) bytes (length old) number in
+    let ok = several-tests m ws (length mem) bytes (length old) number in
     let xs = samplesIn bytes in
     let ss = statesOf mem ws in
     let after = runAll m ss xs in

@@ -38,16 +38,16 @@ count-append c m w (x ∷ xs) ys =
     (sym (add-assoc (recordsIn (eventOf c (w .session .port) x)) (recordCount c (stepOf c (w .session .port) x) xs) _))
 
 -- the samples that a call reads: its own if it is done
-abbrev taken : Chip → List ℕ → ReaderState → Call → List ℕ
-taken c m w call = cond (isDone c m w call) (call .samples) []
+abbrev samplesRead : Chip → List ℕ → ReaderState → Call → List ℕ
+samplesRead c m w call = cond (isDone c m w call) (call .samples) []
 
-call-run : (c : Chip) (m : List ℕ) (w : ReaderState) (call : Call) → outcomeOf c m w call .state ≡ runOf c m w (taken c m w call)
+call-run : (c : Chip) (m : List ℕ) (w : ReaderState) (call : Call) → outcomeOf c m w call .state ≡ runOf c m w (samplesRead c m w call)
 unfolding readOf runOf
 call-run c m w call = by-number (eqb (readNumber c m w (call .samples) (length (call .records))) 0) refl
   where
     by-number :
         (done : Bool) → eqb (readNumber c m w (call .samples) (length (call .records))) 0 ≡ done
-        → outcomeOf c m w call .state ≡ runOf c m w (taken c m w call)
+        → outcomeOf c m w call .state ≡ runOf c m w (samplesRead c m w call)
     by-number true e = rw e
     by-number false e = rw (e, e)
 
@@ -57,7 +57,7 @@ calls-run c m w [] = refl
 calls-run c m w (call ∷ more) =
     calls-run c m (outcomeOf c m w call .state) more
     ∙ ap (λ (v : ReaderState). runOf c m v (joined c m (outcomeOf c m w call .state) more)) (call-run c m w call)
-    ∙ sym (run-append c m w (taken c m w call) (joined c m (outcomeOf c m w call .state) more))
+    ∙ sym (run-append c m w (samplesRead c m w call) (joined c m (outcomeOf c m w call .state) more))
 
 records-taken : (c : Chip) (m : List ℕ) (w : ReaderState) (done : Bool) (xs : List ℕ) → cond done (recordsOf c m w xs) [] ≡ recordsOf c m w (cond done xs [])
 unfolding recordsOf
@@ -71,5 +71,5 @@ calls-records c m w (call ∷ more) =
     let later = joined c m (outcomeOf c m w call .state) more in
     ap (λ (r : List ℕ). cond (isDone c m w call) (recordsOf c m w (call .samples)) [] ++ r) (calls-records c m (outcomeOf c m w call .state) more)
     ∙ ap (λ (r : List ℕ). r ++ recordsOf c m (outcomeOf c m w call .state) later) (records-taken c m w (isDone c m w call) (call .samples))
-    ∙ ap (λ (v : ReaderState). recordsOf c m w (taken c m w call) ++ recordsOf c m v later) (call-run c m w call)
-    ∙ sym (records-append c m w (taken c m w call) later)
+    ∙ ap (λ (v : ReaderState). recordsOf c m w (samplesRead c m w call) ++ recordsOf c m v later) (call-run c m w call)
+    ∙ sym (records-append c m w (samplesRead c m w call) later)

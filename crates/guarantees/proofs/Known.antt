@@ -79,6 +79,6 @@ known-results = record {
   again-same-clock = refl;
   again-other-clock = refl;
   again-spare-bit = refl;
-  thousand = record { taken = refl; given = length-samples Newer (writeThousand 2) };
-  thousand-single = record { taken = refl; given = length-samples Newer (writeThousand 6) };
+  thousand = record { accepted = refl; given = length-samples Newer (writeThousand 2) };
+  thousand-single = record { accepted = refl; given = length-samples Newer (writeThousand 6) };
 }

@@ -29,7 +29,7 @@ use Rattle.several_chips.specs.Numbers.{allSound, countFrom, severalSamplesGood
 use Rattle.several_chips.specs.Calls.{doneOf, severalOf}
 use Rattle.several_chips.proofs.Samples.{sample-count}
 use Rattle.several_chips.proofs.Records.{records-length}
-use Rattle.several_chips.proofs.Accepted.{accepted}
+use Rattle.several_chips.proofs.SeveralTests.{several-tests}
 use Rattle.guarantees.proofs.Alone.{severalOf-done}
 use Rattle.guarantees.specs.RepeatedSeveral.{repeats, repeatsLast, SlowerAll, end, kept, again, RepeatedSeveral}
 use Rattle.guarantees.proofs.Repeated.{step-levels, port-again}
@@ -277,7 +277,7 @@ module _ (m : List ℕ) (ws : List Member) (mem bytes slow old : List ℕ) (even
   done-alike : number bytes ≡ 0 → doneOf m ws mem bytes old ≡ doneOf m ws mem slow old
   unfolding doneOf
   done-alike z =
-      let ok = accepted m ws (length mem) bytes (length old) z in
+      let ok = several-tests m ws (length mem) bytes (length old) z in
       let a = read-alike (ok .sound) (ok .samples) in
       rw (a .run, a .records, counted (ok .sound) (ok .samples)) refl
 

@@ -5,7 +5,7 @@ use mathlib.Core.Bool.{Bool, true, false}
 use mathlib.Core.List.{List, [], _∷_}
 use Rattle.map_format.specs.Format.{countOf, flagsOf, SameRegisters}
 use Rattle.map_test.specs.MapTest.{topFits}
-use Rattle.map_convert.proofs.Laws.{accepted}
+use Rattle.map_convert.proofs.Laws.{convert-tests}
 use Rattle.map_convert.proofs.Made.{converted-maps}
 use Rattle.base_chip.specs.declared.Chip.{Chip}
 use Rattle.base_chip.specs.declared.Chip.the-variants.{Newer, Older}
@@ -131,4 +131,4 @@ same-map c m m′ s f n = record {
 pub converted-alike : ConvertedAlike
 converted-alike version wished m room bytes z =
     let made = converted-maps version wished m room bytes z in
-    same-map Newer m _ (made .same-registers) (sym (made .same-flags)) (accepted version m room z .good ∙ sym (made .good))
+    same-map Newer m _ (made .same-registers) (sym (made .same-flags)) (convert-tests version m room z .good ∙ sym (made .good))

@@ -95,7 +95,7 @@ pub record GoodMaps (example : List ℕ) (version n stated bytes : ℕ) : Type 0
 
 -- The sender takes the order with room for so many samples, and the order has just as many.
 pub record Sends (o : Order) (samples : ℕ) : Type 0 where
-  pub taken : sendNumber Newer o samples ≡ 0
+  pub accepted : sendNumber Newer o samples ≡ 0
   pub given : length (samplesOf Newer o) ≡ samples
 
 pub record KnownResults : Type 0 where

@@ -1,5 +1,5 @@
-// The reader's calls as a host makes them, on any chip: a session crosses as its bytes, which the crate `sessionbytes` puts together and
-// takes apart.
+// The reader's calls as a host makes them, on any chip: a session crosses as its bytes, which the crate `bus_session_bytes` puts together
+// and takes apart.
 ghost use mathlib.Core.Path.{_≡_};
 ghost use Rattle.reg_banks.specs.Banks.{banks};
 ghost use Rattle.host_calls.specs.Calls.{hostOpening, hostOpenOf, hostOutcome, hostReadOf, hostNext, hostNextOf};

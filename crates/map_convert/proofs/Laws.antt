@@ -43,14 +43,14 @@ length-converted version m good =
     ))
 
 -- what number 0 says: the map is good, what goes back has no flag, and the buffer has room
-pub record Accepted (version : ℕ) (m : List ℕ) (room : ℕ) : Type 0 where
+pub record ConvertTests (version : ℕ) (m : List ℕ) (room : ℕ) : Type 0 where
   pub good : mapNumber Newer m ≡ 0
   pub unflagged : (eqb version 2 || eqb (flagsOf m) 0) ≡ true
   pub enough : length (convertedTo version m) ≤ room
 
-pub accepted : (version : ℕ) (m : List ℕ) (room : ℕ) → convertNumber version m room ≡ 0 → Accepted version m room
+pub convert-tests : (version : ℕ) (m : List ℕ) (room : ℕ) → convertNumber version m room ≡ 0 → ConvertTests version m room
 unfolding convertNumber
-accepted version m room z =
+convert-tests version m room z =
     let t = passed (mapNumber Newer m) (eqb (mapNumber Newer m) 0) (eqb version 2 || eqb (flagsOf m) 0) (leb (length (convertedTo version m)) room) refl z in
     record {
       good = t .0;
@@ -73,7 +73,7 @@ module _ (version : ℕ) (m old : List ℕ) where
   done k n new e z p =
       let number : convertNumber version m (length old) ≡ 0 = sym e ∙ z in
       let count : n ≡ length (convertedTo version m) = omega (arith, p .next-place) in
-      let buffer = put-filled (accepted version m _ number .enough) p in
+      let buffer = put-filled (convert-tests version m _ number .enough) p in
       yes _ (eq-eqb _ _ number) (cc)
 
   pub refused : (k : ℕ) → k ≡ convertNumber version m (length old) → (k ≡ 0 → ⊥) → converting k 0 old ≡ convertOf version m old

@@ -19,7 +19,7 @@ use Rattle.map_test.specs.MapTest.{formTests, mapNumber}
 use Rattle.map_test.proofs.Laws.{good-form, good-length, good-version, good-count, good-alike}
 use Rattle.map_convert.specs.Convert.{headBytes, convertedTo}
 use Rattle.map_convert.specs.Made.{Wished, to-1, to-2, IsConverted, ConvertedMaps, BackAgain}
-use Rattle.map_convert.proofs.Laws.{accepted}
+use Rattle.map_convert.proofs.Laws.{convert-tests}
 
 -- a map of n registers with these entries and no flag
 abbrev pub mapIn : ℕ → ℕ → List ℕ → List ℕ
@@ -217,11 +217,11 @@ version-of m good = go (versionOf m) (good-version Newer m good)
 
 pub converted-maps : ConvertedMaps
 converted-maps wished b m room bytes z =
-    let t = accepted wished m room z in
+    let t = convert-tests wished m room z in
     go (versionOf m) refl (version-of m (t .good)) wished b (t .unflagged)
   where
     good : mapNumber Newer m ≡ 0
-    good = accepted wished m room z .good
+    good = convert-tests wished m room z .good
 
     go :
         (v : ℕ) → versionOf m ≡ v → Wished v → (w : ℕ) → Wished w → (eqb w 2 || eqb (flagsOf m) 0) ≡ true → IsConverted w m (convertedTo w m)

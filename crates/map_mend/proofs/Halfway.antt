@@ -23,10 +23,10 @@ pub record Halfway (m old map list : List ℕ) (n a : ℕ) : Type 0 where
   pub listing : Putting old 0 (alteredOf m) (alteredFrom m a (countOf m - a)) n list
 
 module _ (m old : List ℕ) (f : Formed m) where
-  pub begun : length (alteredOf m) ≤ length old → Halfway m old m old 0 0
-  begun fits =
+  pub halfway-begun : length (alteredOf m) ≤ length old → Halfway m old m old 0 0
+  halfway-begun fits =
       let e : countOf m - 0 ≡ countOf m = omega arith in
-      record { within = omega arith; passing = pass.begun m f; listing = rw e (putting.begun old 0 (alteredOf m) (omega arith)) }
+      record { within = omega arith; passing = pass.passing-begun m f; listing = rw e (putting.putting-begun old 0 (alteredOf m) (omega arith)) }
 
   module _ (map list : List ℕ) (n a : ℕ) (h : Halfway m old map list n a) where
     pub same-size : length map ≡ length m

@@ -15,14 +15,14 @@ use Rattle.map_test.proofs.Laws.{formed}
 use Rattle.map_mend.specs.Mend.{alteredOf, mendNumber, MendedEntries, mending, mendOf}
 
 -- what number 0 says: the form is right, the product number is one, and the list fits
-pub record Accepted (m : List ℕ) (room : ℕ) : Type 0 where
+pub record MendTests (m : List ℕ) (room : ℕ) : Type 0 where
   pub form : every (formTests m) ≡ true
   pub product : productGood m ≡ true
   pub fits : length (alteredOf m) ≤ room
 
-pub accepted : (m : List ℕ) (room : ℕ) → mendNumber m room ≡ 0 → Accepted m room
+pub mend-tests : (m : List ℕ) (room : ℕ) → mendNumber m room ≡ 0 → MendTests m room
 unfolding mendNumber
-accepted m room z =
+mend-tests m room z =
     let t = passed (every (formTests m)) (productGood m) (leb (length (alteredOf m)) room) z in
     record { form = t .0; product = t .1 .0; fits = leb-true (length (alteredOf m)) room (t .1 .1) }
   where
@@ -33,7 +33,7 @@ accepted m room z =
     passed false b c z = absurd (omega arith)
 
 pub is-formed : (m : List ℕ) (room : ℕ) → mendNumber m room ≡ 0 → Formed m
-is-formed m room z = formed m (accepted m room z .form)
+is-formed m room z = formed m (mend-tests m room z .form)
 
 -- what a call leaves: the mended map and its list, or both as they were
 module _ (m old : List ℕ) where
@@ -44,7 +44,7 @@ module _ (m old : List ℕ) where
   done k n m′ new e z p =
       let number : mendNumber m (length old) ≡ 0 = sym e ∙ z in
       let count : n ≡ length (alteredOf m) = omega (arith, p .listed .next-place) in
-      let list = put-filled (accepted m _ number .fits) (p .listed) in
+      let list = put-filled (mend-tests m _ number .fits) (p .listed) in
       yes _ (eq-eqb _ _ number) (cc (p .map-after))
 
   pub refused : (k : ℕ) → k ≡ mendNumber m (length old) → (k ≡ 0 → ⊥) → mending k 0 m old ≡ mendOf m old

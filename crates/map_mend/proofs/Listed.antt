@@ -44,15 +44,15 @@ unfolding alteredFrom
 none-left m n a h = let e : n - a ≡ 0 = omega arith in rw e
 
 -- In a loop over n entries that counts the bytes of their list: what is counted before a, with the list from a on, is the whole.
-pub record Counting (m : List ℕ) (n counted a : ℕ) : Type 0 where
+pub record ListCounting (m : List ℕ) (n counted a : ℕ) : Type 0 where
   pub within : a ≤ n
   pub so-far : counted + length (alteredFrom m a (n - a)) ≡ length (alteredFrom m 0 n)
 
-pub begun : (m : List ℕ) (n : ℕ) → Counting m n 0 0
-begun m n = let e : n - 0 ≡ n = omega arith in record { within = omega arith; so-far = rw e (zero-add (length (alteredFrom m 0 n))) }
+pub list-counting-begun : (m : List ℕ) (n : ℕ) → ListCounting m n 0 0
+list-counting-begun m n = let e : n - 0 ≡ n = omega arith in record { within = omega arith; so-far = rw e (zero-add (length (alteredFrom m 0 n))) }
 
-module _ (m : List ℕ) (n counted a : ℕ) (c : Counting m n counted a) where
-  pub again : (size : ℕ) → size ≡ length (alteredAt a (registerAt m a)) → a < n → Counting m n (counted + size) (a + 1)
+module _ (m : List ℕ) (n counted a : ℕ) (c : ListCounting m n counted a) where
+  pub again : (size : ℕ) → size ≡ length (alteredAt a (registerAt m a)) → a < n → ListCounting m n (counted + size) (a + 1)
   again size e h =
       let next = alteredAt a (registerAt m a) in
       let more = alteredFrom m (a + 1) (n - (a + 1)) in

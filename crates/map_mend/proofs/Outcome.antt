@@ -19,7 +19,7 @@ use Rattle.map_mend.specs.Entry.{mendedAt}
 use Rattle.map_mend.specs.Mend.{listedSize, mendedMap, alteredAt, alteredFrom, alteredOf, mendNumber, Mending, mending, mendOf}
 use Rattle.map_mend.specs.Outcome.{MendedAccepted, GoodKept, MendedOnce, restored, GivenBack}
 use Rattle.map_mend.proofs.MendedEntry.{Further, good-kept}
-use Rattle.map_mend.proofs.Laws.{accepted, is-formed}
+use Rattle.map_mend.proofs.Laws.{mend-tests, is-formed}
 use Rattle.map_mend.proofs.Accepted.{mended-accepted}
 use Rattle.map_mend.proofs.Restored.{give-back}
 
@@ -34,7 +34,7 @@ outcome-accepted m list = go (eqb (mendNumber m (length list)) 0) refl
     go : (b : Bool) → eqb (mendNumber m (length list)) 0 ≡ b → leaves m list b .number ≡ 0 → mapNumber Newer (leaves m list b .map) ≡ 0
     go true e h =
         let z = eqb-true (mendNumber m (length list)) 0 e in
-        let t = accepted m (length list) z in
+        let t = mend-tests m (length list) z in
         mended-accepted m (is-formed m (length list) z) (t .form) (t .product)
     go false e h = absurd (eqb-false (mendNumber m (length list)) 0 e h)
 

@@ -34,9 +34,9 @@ pub record Passing (m map : List ℕ) (a : ℕ) : Type 0 where
   pub so-far : map ≡ behind m (partly m a)
 
 module _ (m : List ℕ) (f : Formed m) where
-  pub begun : Passing m m 0
+  pub passing-begun : Passing m m 0
   unfolding mendedFrom
-  begun = record { so-far = sym (same-map m f) }
+  passing-begun = record { so-far = sym (same-map m f) }
 
   -- the bytes from entry a on
   later-byte : (a j : ℕ) → byteAt (partly m a) (3 * a + j) ≡ byteAt (entriesOf m) (3 * a + j)

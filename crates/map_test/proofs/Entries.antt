@@ -18,8 +18,8 @@ pub record Tested (kinds m : List ℕ) (first last : ℕ) (good : Bool) (a : ℕ
   pub so-far : (good && entriesGood kinds m a (last - a)) ≡ entriesGood kinds m first (last - first)
 
 module _ (kinds m : List ℕ) (first last : ℕ) where
-  pub begun : first ≤ last → Tested kinds m first last true first
-  begun h = record { from = omega arith; within = h; so-far = refl }
+  pub testing-begun : first ≤ last → Tested kinds m first last true first
+  testing-begun h = record { from = omega arith; within = h; so-far = refl }
 
   module _ (good : Bool) (a : ℕ) (t : Tested kinds m first last good a) where
     pub again :

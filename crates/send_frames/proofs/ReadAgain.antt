@@ -26,10 +26,10 @@ module _ (up : Bool) (settings : ℕ) where
   earlier [] after h = tt
   earlier (x ∷ xs) after h = (h .0, earlier xs after (h .1))
 
-  all-taken : (xs : List ListedOrder) → AllFrames up (made xs) → firstBad (made xs) ≡ 0
+  all-accepted : (xs : List ListedOrder) → AllFrames up (made xs) → firstBad (made xs) ≡ 0
   unfolding AllFrames firstBad
-  all-taken [] h = refl
-  all-taken (x ∷ xs) h = rw (h .0 .taken) (all-taken xs (h .1))
+  all-accepted [] h = refl
+  all-accepted (x ∷ xs) h = rw (h .0 .accepted) (all-accepted xs (h .1))
 
 pub frames-read : FramesRead
 unfolding ordersOf
@@ -40,4 +40,4 @@ frames-read up settings addresses bytes before xs after good streams split few =
     (later up settings before (xs ++ after) (subst (λ (l : List ListedOrder). AllFrames up (made up settings l)) split frames)) in
     let back = list-back mostOrders xs few in
     let same : made up settings (listedOf mostOrders (listBytes xs)) ≡ made up settings xs = ap (made up settings) (back .1) in
-    record { good = back .0; same = same; none-bad = ap firstBad same ∙ all-taken up settings xs mine }
+    record { good = back .0; same = same; none-bad = ap firstBad same ∙ all-accepted up settings xs mine }

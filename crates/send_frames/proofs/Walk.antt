@@ -11,7 +11,7 @@ use borrow.Author.Tests.{eqb-true, leb-true}
 use Rattle.base_bits.specs.Tests.{every}
 use Rattle.base_bits.specs.Buffer.{Put}
 use Rattle.base_bits.proofs.Cases.{every-true}
-use Rattle.base_bits.proofs.Putting.{Putting, begun, Splits, next-fits, further, ended}
+use Rattle.base_bits.proofs.Putting.{Putting, putting-begun, Splits, next-fits, further, ended}
 use Rattle.send_setup.specs.Form.{listedBytes, listBytes}
 use Rattle.send_frames.specs.Frames.{Stretch, stretch, wantedOf, stretchesOf, frameOf, framesOf}
 use Rattle.send_frames.specs.Calls.{registersTests, framesBytes}
@@ -129,7 +129,7 @@ frame-from up addresses bytes old g h = record {
   within = omega arith;
   least = 1;
   apart = g .apart;
-  put = begun old 0 (framesBytes up addresses bytes) (omega arith);
+  put = putting-begun old 0 (framesBytes up addresses bytes) (omega arith);
 }
 
 module _ {up : Bool} {addresses bytes old : List ℕ} {from n : ℕ} {new : List ℕ}

@@ -97,9 +97,10 @@ either-run false a f (v ∷ vs) h k =
 
 -- ---- the sender takes it
 
-taken : (t start k : ℕ) (vs : List ℕ) → t ≤ 7 → bitAt t 2 ≡ false → 1 ≤ k → k ≤ 1000 → length vs ≡ k → start ≤ 0x7FFF → ownNumber (order 0 t start k vs) ≡ 0
+write-accepted : (t start k : ℕ) (vs : List ℕ) → t ≤ 7 → bitAt t 2 ≡ false → 1 ≤ k
+    → k ≤ 1000 → length vs ≡ k → start ≤ 0x7FFF → ownNumber (order 0 t start k vs) ≡ 0
 unfolding sendNumber every
-taken t start k vs known single some most e low =
+write-accepted t start k vs known single some most e low =
     let n = length (samplesOf Newer (order 0 t start k vs)) in
     rw (le-leb t 7 known, le-leb 1 k some, le-leb k 1000 most, eq-eqb (length vs) k e, le-leb start 0x7FFF low, single, le-leb n n (omega arith))
 
@@ -143,7 +144,7 @@ module _ (up : Bool) (t : ℕ) (streams : Streams up t) where
       write = refl;
       streaming = streams .streaming;
       direction = streams .direction;
-      taken = taken t (startOf up s) (length (s .bytes)) (dataOf up (s .bytes)) (streams .known) (streams .streaming)
+      accepted = write-accepted t (startOf up s) (length (s .bytes)) (dataOf up (s .bytes)) (streams .known) (streams .streaming)
           (a .1) (h .0) (length-data up (s .bytes)) (start-low up s (a .1) (a .2));
     },
     all-frames (s .lowest + length (s .bytes) + 1) ss (a .3) (h .1),

@@ -20,7 +20,7 @@ pub record Frame (up : Bool) (o : Order) : Type 0 where
   pub write : isRead o ≡ false
   pub streaming : singleInstruction o ≡ false
   pub direction : ascending o ≡ up
-  pub taken : ownNumber o ≡ 0
+  pub accepted : ownNumber o ≡ 0
 
 unfoldable pub AllFrames : Bool → List Order → Type 0
 AllFrames up [] = Unit {0}

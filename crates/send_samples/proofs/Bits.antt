@@ -65,7 +65,8 @@ pub two-nibbles : (lsb : Bool) (x t : ℕ) → t ≡ cond lsb (turned 8 x) x
     → clocked (bitsOf lsb 8 x) ≡ clocked (highFirst 4 (t / 16)) ++ clocked (highFirst 4 (t % 16))
 unfolding bitsOf
 two-nibbles lsb x t e =
-    ap clocked (sent lsb ∙ ap (highFirst 8) (sym e) ∙ high-apart 4 4 t ∙ ap (λ (bs : List Bool). highFirst 4 (t / 16) ++ bs) (sym (high-under 4 4 t (omega arith))))
+    ap clocked (sent lsb ∙ ap (highFirst 8) (sym e) ∙ high-apart 4 4 t
+    ∙ ap (λ (bs : List Bool). highFirst 4 (t / 16) ++ bs) (sym (high-under 4 4 t (omega arith))))
     ∙ clocked-append (highFirst 4 (t / 16)) (highFirst 4 (t % 16))
   where
     sent : (l : Bool) → cond l (lowFirst 0 8 x) (highFirst 8 x) ≡ highFirst 8 (cond l (turned 8 x) x)

@@ -44,7 +44,8 @@ next-byte r a k i bytes l h =
     let hv : i < length vs = omega (arith, length-sent (r .read) k bytes l) in
     record { split = rw (sent-at (r .read) k i bytes h, add-one i, drop-cons vs i 0 hv) (clocked-append _ _) }
 
-pub no-more-bytes : (r : RunSettings) (a k i : ℕ) (bytes : List ℕ) → length bytes ≡ cond (r .read) 0 k → k ≤ i → runSamples r a (drop i (sentOf (r .read) k bytes)) ≡ []
+pub no-more-bytes : (r : RunSettings) (a k i : ℕ) (bytes : List ℕ)
+    → length bytes ≡ cond (r .read) 0 k → k ≤ i → runSamples r a (drop i (sentOf (r .read) k bytes)) ≡ []
 unfolding runBits runFrom clocked
 no-more-bytes r a k i bytes l h =
     let vs : List ℕ = sentOf (r .read) k bytes in

@@ -11,7 +11,7 @@ use Rattle.base_bits.specs.Buffer.{Put}
 use Rattle.base_bits.specs.Bytes.{wordAt}
 use Rattle.base_bits.specs.Tests.{unless}
 use Rattle.base_bits.proofs.Cases.{no}
-use Rattle.base_bits.proofs.Putting.{Putting, begun, Splits, next-fits, further, ended}
+use Rattle.base_bits.proofs.Putting.{Putting, putting-begun, Splits, next-fits, further, ended}
 use Rattle.base_chip.specs.declared.Chip.the-variants.{Newer}
 use Rattle.send_order.specs.Order.{Order}
 use Rattle.send_order.specs.Samples.{samplesOf, allSamples}
@@ -82,10 +82,12 @@ module _ {settings : ℕ} {l : List ℕ} {n left bytes : ℕ} (s : Looking setti
         unfolding allSamples
         look-on =
             let more = ordersFrom settings l (n + 2 + wordAt l n) (left - 1) in
-            let both : length (allSamples Newer (ordersFrom settings l n left)) ≡ length (samplesOf Newer (orderAt settings l n)) + length (allSamples Newer more) =
+            let both : length (allSamples Newer (ordersFrom settings l n left))
+            ≡ length (samplesOf Newer (orderAt settings l n)) + length (allSamples Newer more) =
             ap (λ (os : List Order). length (allSamples Newer os)) split ∙ length-append (samplesOf Newer (orderAt settings l n)) (allSamples Newer more) in
             let orders : 64 - left + 1 ≡ 64 - (left - 1) = omega (arith, s .few, f .some) in
-            let taken : samplesIn settings (64 - left) bytes + length (samplesOf Newer (orderAt settings l n)) ≡ samplesIn settings (64 - (left - 1)) (bytes + k) =
+            let taken : samplesIn settings (64 - left) bytes + length (samplesOf Newer (orderAt settings l n))
+            ≡ samplesIn settings (64 - (left - 1)) (bytes + k) =
             rw (length-counted Newer (orderAt settings l n) (admitted Newer _ _ own .count), ← t, ← orders) (one-more settings (64 - left) bytes k) in
             rw (f .place) (record {
               form = tested-on (s .form) (f .some) h (f .whole);
@@ -134,7 +136,7 @@ send-from settings l old z =
       orders = ordersOf settings l;
       to-go = all-to-go settings l (p .good);
       fine = p .fine;
-      put = begun old 0 (allSamples Newer (ordersOf settings l)) (omega (arith, p .enough));
+      put = putting-begun old 0 (allSamples Newer (ordersOf settings l)) (omega (arith, p .enough));
     }
 
 module _ {settings : ℕ} {l old : List ℕ} {n k : ℕ} {new : List ℕ} (s : Sends settings l old n k new) (h : n < length l) where
@@ -157,6 +159,7 @@ module _ {settings : ℕ} {l old : List ℕ} {n k : ℕ} {new : List ℕ} (s : S
   pub sent-on : {k′ : ℕ} {new′ : List ℕ} → Put new k (samplesOf Newer (orderAt settings l n)) k′ new′ → Sends settings l old (n + 2 + wordAt l n) k′ new′
   sent-on p = record { orders = next .others; to-go = next .onward; fine = both-fine .1; put = further (s .put) splits p }
 
-pub sent-all : {settings : ℕ} {l old : List ℕ} {n k : ℕ} {new : List ℕ} → Sends settings l old n k new → length l ≤ n → Put old 0 (allSamples Newer (ordersOf settings l)) k new
+pub sent-all : {settings : ℕ} {l old : List ℕ} {n k : ℕ} {new : List ℕ} → Sends settings l old n k new
+    → length l ≤ n → Put old 0 (allSamples Newer (ordersOf settings l)) k new
 unfolding allSamples
 sent-all s h = ended (s .put) (ap (allSamples Newer) (none-to-go (s .to-go) h))

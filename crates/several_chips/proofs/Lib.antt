@@ -6,7 +6,7 @@ mod Still
 mod Turning
 mod Within
 pub mod Memory
-pub mod Accepted
+pub mod SeveralTests
 pub mod Listed
 pub mod Samples
 pub mod Records

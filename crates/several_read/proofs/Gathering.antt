@@ -22,8 +22,8 @@ pub record Reached (ws : List Member) (i : ℕ) (g : Group) : Type 0 where
   pub so-far : gathered g (drop i ws) ≡ gathered noGroup ws
   pub bytes : AllBytes (take i ws)
 
-pub begun : (ws : List Member) → Reached ws 0 noGroup
-begun ws = record { inside = omega arith; so-far = refl; bytes = tt }
+pub gathering-begun : (ws : List Member) → Reached ws 0 noGroup
+gathering-begun ws = record { inside = omega arith; so-far = refl; bytes = tt }
 
 pub turned : {ws : List Member} {i : ℕ} {g : Group} → Reached ws i g → i < length ws → (h : Group) → h ≡ withMember g (getD ws i absent)
     → ((k : ℕ) → getD (getD ws i absent .session) k 0 < 256) → Reached ws (i + 1) h

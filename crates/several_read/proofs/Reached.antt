@@ -16,7 +16,7 @@ use Rattle.several_chips.specs.declared.Stepped.{Stepped}
 use Rattle.several_chips.specs.Contracts.{turn, turnAfter, stateAfterTurn, turnRecord, Stepping, HasStepped, AllBytes}
 use Rattle.several_chips.specs.Numbers.{severalNumber, severalRecordSize}
 use Rattle.several_chips.specs.Calls.{severalOutcome, doneOf, severalOf}
-use Rattle.several_chips.proofs.Accepted.{Accepted, accepted}
+use Rattle.several_chips.proofs.SeveralTests.{SeveralTests, several-tests}
 use Rattle.several_chips.proofs.Kept.{state-sound, banks-sized}
 use Rattle.several_read.proofs.Turns.{Going, going-begun, going-asked, going-stepped, going-ended}
 
@@ -52,11 +52,11 @@ module _ (m : List ℕ) (ws : List Member) (mem bytes old : List ℕ) (number : 
   abbrev At : Turn → List Member → List ℕ → List ℕ → Type 0
   At t cur memory new = Reached m ws mem bytes old number t cur memory new
 
-  ok : number ≡ 0 → Accepted m ws (length mem) bytes (length old)
-  ok z = accepted m ws (length mem) bytes (length old) (sym known ∙ z)
+  ok : number ≡ 0 → SeveralTests m ws (length mem) bytes (length old)
+  ok z = several-tests m ws (length mem) bytes (length old) (sym known ∙ z)
 
-  pub begun : AllBytes ws → At (turn 0 0 0) ws mem old
-  begun small = record {
+  pub turns-begun : AllBytes ws → At (turn 0 0 0) ws mem old
+  turns-begun small = record {
     same = refl;
     same-memory = refl;
     same-records = refl;

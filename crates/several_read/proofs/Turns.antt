@@ -24,7 +24,7 @@ use Rattle.several_chips.specs.Contracts.{sampleAt, turn, turnAfter, Stepping, 
 use Rattle.several_chips.specs.Numbers.{allSound, countFrom, severalRecordSize}
 use Rattle.several_chips.specs.Calls.{severalOutcome, doneOf}
 use Rattle.several_chips.proofs.Memory.{AllMapped, ranged-at, mapped-set, within, own-banks, placed-for, placed-all-same, all-mapped, mapped-held, length-placed-all}
-use Rattle.several_chips.proofs.Accepted.{Accepted}
+use Rattle.several_chips.proofs.SeveralTests.{SeveralTests}
 use Rattle.several_chips.proofs.Listed.{length-with, with-at, with-set, state-back, with-same, sound-at, sound-set}
 use Rattle.several_chips.proofs.Samples.{sample-count, sample-here, good-at}
 use Rattle.several_chips.proofs.Records.{bytes-append, records-length}
@@ -59,7 +59,7 @@ length-states mem (w ∷ ws) = ap suc (length-states mem ws)
 abbrev nobody : List ℕ → Member → State
 nobody mem d = stateOf mem d
 
-module _ (m : List ℕ) (ws : List Member) (mem bytes old : List ℕ) (ok : Accepted m ws (length mem) bytes (length old)) where
+module _ (m : List ℕ) (ws : List Member) (mem bytes old : List ℕ) (ok : SeveralTests m ws (length mem) bytes (length old)) where
   abbrev xs : List Sample
   xs = samplesIn bytes
 

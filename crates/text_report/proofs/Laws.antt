@@ -87,8 +87,8 @@ pub record Listing (records old new : List ℕ) (all n : ℕ) : Type 0 where
   pub same : length new ≡ length old
   pub rest : sets new (n * lineSize) (linesOf (all - n) (drop (n * recordSize) records)) ≡ sets old 0 (linesOf all records)
 
-pub begun : (records old : List ℕ) (all : ℕ) → Listing records old old all 0
-begun records old all = record { within = omega arith; same = refl; rest = rw (ap (λ (k : ℕ). linesOf k records) e) }
+pub listing-begun : (records old : List ℕ) (all : ℕ) → Listing records old old all 0
+listing-begun records old all = record { within = omega arith; same = refl; rest = rw (ap (λ (k : ℕ). linesOf k records) e) }
   where
     e : all - 0 ≡ all
     e = omega arith

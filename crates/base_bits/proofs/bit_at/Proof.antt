@@ -1,4 +1,4 @@
--- `bits::bit_at` meets its contract: a shift right is a quotient by a power of two.
+-- `bit_at` meets its contract: a shift right is a quotient by a power of two.
 use borrow.Author.Needs.{needs}
 use Rattle.base_bits.specs.Bits.{bitAt}
 use Rattle.base_bits.proofs.bit_at.Statement.{statement}

@@ -1,4 +1,4 @@
--- `bits::merge` meets its contract: the law of the masked merge at eight bits.
+-- `merge` meets its contract: the law of the masked merge at eight bits.
 use borrow.Author.Needs.{needs}
 use Rattle.base_bits.proofs.Laws.{mask-merge}
 use Rattle.base_bits.proofs.merge.Statement.{statement}

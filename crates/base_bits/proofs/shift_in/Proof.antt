@@ -1,4 +1,4 @@
--- `bits::shift_in` meets its contract: for each bit order, the law of shift and or.
+-- `shift_in` meets its contract: for each bit order, the law of shift and or.
 use borrow.Author.Needs.{needs}
 use Rattle.base_bits.proofs.Laws.{above, under}
 use Rattle.base_bits.proofs.shift_in.Statement.{statement}

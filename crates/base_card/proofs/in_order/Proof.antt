@@ -1,4 +1,4 @@
--- `card::in_order` meets its contract: the card turns, or nothing is done.
+-- `in_order` meets its contract: the card turns, or nothing is done.
 use Rattle.base_bits.proofs.Cases.{yes}
 use borrow.Author.Needs.{needs}
 use Rattle.base_card.proofs.in_order.Statement.{statement}

@@ -1,4 +1,4 @@
--- `card::is_mirror` meets its contract: the byte beside what the card turns it into.
+-- `is_mirror` meets its contract: the byte beside what the card turns it into.
 use borrow.Author.Needs.{needs}
 use Rattle.base_card.specs.Card.{isMirror}
 use Rattle.base_card.proofs.is_mirror.Statement.{statement}

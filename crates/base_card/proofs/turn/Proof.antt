@@ -1,4 +1,4 @@
--- `card::turn` meets its contract: the const is the card.
+-- `turn` meets its contract: the const is the card.
 use Rattle.base_card.proofs.Entries.{is-card}
 use Rattle.base_card.proofs.turn.Statement.{statement}
 use Rattle.base_card.proofs.turn.Tie as tie

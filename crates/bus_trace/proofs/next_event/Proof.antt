@@ -39,17 +39,20 @@ happened-requires c κs = search needs
 
 returns : tie.Need-returns Inv-loop μ-loop
 returns c =
-    scan-event _ (scan-quiet _ (c .before .before .before .before .before .before .before .before .before .loop .inv .1) (c .before .before .before .before .before .before .before .quiet .ensures))
+    scan-event _ (scan-quiet _ (c .before .before .before .before .before .before .before .before .before .loop .inv .1)
+    (c .before .before .before .before .before .before .before .quiet .ensures))
     _ _ (c .before .before .before .before .before .if1 .left) (c .before .before .step .ensures) (c .before .before .before .event .ensures)
 
 loop-less : tie.Need-loop-less Inv-loop μ-loop
-loop-less c = omega (arith, c .before .before .before .before .before .before .before .quiet .ensures .ahead, c .before .before .before .before .before .if1 .left)
+loop-less c =
+    omega (arith, c .before .before .before .before .before .before .before .quiet .ensures .ahead, c .before .before .before .before .before .if1 .left)
 
 loop-again : tie.Need-loop-again Inv-loop μ-loop
 loop-again c =
     let none = sym (c .before .happened .ensures) ∙ c .if2 .left in (
       quiet-event _ none,
-      scan-nothing _ (scan-quiet _ (c .before .before .before .before .before .before .before .before .before .loop .inv .1) (c .before .before .before .before .before .before .before .quiet .ensures))
+      scan-nothing _ (scan-quiet _ (c .before .before .before .before .before .before .before .before .before .loop .inv .1)
+          (c .before .before .before .before .before .before .before .quiet .ensures))
           _ _ (c .before .before .before .before .before .if1 .left) (c .before .before .step .ensures) (c .before .before .before .event .ensures) none,
     )
 
@@ -58,7 +61,8 @@ returns-2 c = scan-ended _ (c .before .loop .inv .1) _ (c .before .loop .inv .0)
 
 returns-3 : tie.Need-returns-3 Inv-loop μ-loop
 returns-3 c =
-    scan-ended _ (scan-quiet _ (c .before .before .before .before .loop .inv .1) (c .before .before .quiet .ensures)) _ (c .before .before .before .before .loop .inv .0)
+    scan-ended _ (scan-quiet _ (c .before .before .before .before .loop .inv .1) (c .before .before .quiet .ensures))
+    _ (c .before .before .before .before .loop .inv .0)
     (c .before .before .before .before .before .before .pre .1) (c .if1 .taken)
 
 pub next-event-spec : {M : Type 1} → statement M

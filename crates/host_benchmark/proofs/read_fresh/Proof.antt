@@ -39,10 +39,9 @@ same-length-6 c = search needs
 
 returns-2 : tie.Need-returns-2
 returns-2 c =
-    read-on _ _ _ _ _ _ _ _ _
-    (c .before .before .before .before .before .before .before .before .before .before .before .before .before .before .before .before .before .before .before .before .open-on .ensures)
-    (c .before .before .before .before .before .before .before .before .before .before .before .before .before .before .if1 .left) _ _ _ _
-    (c .before .before .before .before .before .before .before .before .before .read-on .ensures)
+    let called = c .before .before .before .before .before .before .before .before .before in
+    let opened = called .before .before .before .before .before in
+    read-on _ _ _ _ _ _ _ _ _ (opened .before .before .before .before .before .before .open-on .ensures) (opened .if1 .left) _ _ _ _ (called .read-on .ensures)
 
 pub read-fresh-spec : {M : Type 1} → statement M
 read-fresh-spec =

@@ -11,12 +11,12 @@ use Rattle.base_chip.specs.declared.Chip.the-variants.{Newer}
 use Rattle.map_format.specs.Format.{versionOf}
 use Rattle.map_test.proofs.Laws.{good-form, good-count}
 use Rattle.map_convert.specs.Convert.{convertedTo}
-use Rattle.map_convert.proofs.Laws.{Accepted, accepted, length-head, length-converted}
+use Rattle.map_convert.proofs.Laws.{ConvertTests, convert-tests, length-head, length-converted}
 use Rattle.map_convert.proofs.put_map.Statement.{statement}
 use Rattle.map_convert.proofs.put_map.Tie as tie
 
-taken : (c : tie.Start) → Accepted (c .args .wished) (c .args .map .now) (length (c .args .out .now))
-taken c = accepted _ _ _ (c .pre)
+tests : (c : tie.Start) → ConvertTests (c .args .wished) (c .args .map .now) (length (c .args .out .now))
+tests c = convert-tests _ _ _ (c .pre)
 
 is-wished : (c : tie.Then1) → let a = c .before .before .before .before .args in eqb (versionOf (a .map .now)) (a .wished) ≡ true
 is-wished c = eq-eqb _ _ (sym (c .before .version .ensures) ∙ c .if1 .taken)
@@ -30,7 +30,7 @@ version-requires c κs = search needs
 put-rest-requires : tie.Need-put-rest-requires
 unfolding convertedTo
 put-rest-requires c κs =
-    let room = rw (is-wished (c .before)) at (taken (c .before .before .before .before .before) .enough) in
+    let room = rw (is-wished (c .before)) at (tests (c .before .before .before .before .before) .enough) in
     (omega arith, omega (arith, room))
 
 same-length : tie.Need-same-length
@@ -46,7 +46,7 @@ count-requires c κs = search needs
 put-head-requires : tie.Need-put-head-requires
 put-head-requires c κs =
     let s = c .before .before .before .before .before .before in
-    let t = taken s in
+    let t = tests s in
     let e = c .before .count .ensures in (
       omega (arith, e, good-count Newer _ (t .good) .1),
       omega (arith, length-head (s .args .wished) (c .before .count .result), length-converted (s .args .wished) _ (t .good), t .enough),
@@ -60,7 +60,7 @@ put-rest-requires-2 c κs =
     let h = c .before .before .before .before in
     let s = h .before .before .before .before .before .before .before in
     let m = s .args .map .now in
-    let t = taken s in
+    let t = tests s in
     let n = h .before .before .count .result in
     let e = c .before .head .ensures in (
       omega (arith, e, good-form Newer m (t .good)),

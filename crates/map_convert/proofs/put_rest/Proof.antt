@@ -3,7 +3,7 @@ use mathlib.Core.Path.{refl}
 use Prim.Native.Nat.{_+_, _-_, _≤_}
 use native.Mathlib.Omega.{arith}
 use lib.ListN.{length, drop, drop-of-length-le}
-use Rattle.base_bits.proofs.Putting.{Putting, begun, next-byte, next-fits, further, ended}
+use Rattle.base_bits.proofs.Putting.{Putting, putting-begun, next-byte, next-fits, further, ended}
 use Rattle.map_convert.proofs.put_rest.Statement.{statement}
 use Rattle.map_convert.proofs.put_rest.Tie as tie
 
@@ -18,7 +18,7 @@ fits : (c : tie.After-shared-slice-known Inv-loop μ-loop) → c .before .before
 fits c = next-fits (c .before .before .loop .inv .1) (next-byte _ _ (c .before .loop-test .taken))
 
 loop-holds : tie.Need-loop-holds Inv-loop μ-loop
-loop-holds c = (c .pre .0, begun _ _ _ (c .pre .1))
+loop-holds c = (c .pre .0, putting-begun _ _ _ (c .pre .1))
 
 shared-slice-read-out : tie.Need-shared-slice-read-out Inv-loop μ-loop
 shared-slice-read-out c = omega arith

@@ -1,4 +1,4 @@
--- `regmap::byte_at` meets its contract: beyond the end a list gives its default.
+-- `byte_at` meets its contract: beyond the end a list gives its default.
 use mathlib.Core.Path.{sym}
 use borrow.Author.Needs.{needs}
 use lib.ListN.{List·getD-eq-default}

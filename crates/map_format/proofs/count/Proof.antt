@@ -1,4 +1,4 @@
--- `regmap::count` meets its contract: n is the word after the version byte.
+-- `count` meets its contract: n is the word after the version byte.
 use borrow.Author.Needs.{needs}
 use Rattle.map_format.specs.Format.{countOf}
 use Rattle.map_format.proofs.count.Statement.{statement}

@@ -1,4 +1,4 @@
--- `regmap::flags` meets its contract: the version decides.
+-- `flags` meets its contract: the version decides.
 use mathlib.Core.Path.{refl, sym, _∙_}
 use borrow.Author.Needs.{needs}
 use borrow.Author.Tests.{eq-eqb, ne-eqb}

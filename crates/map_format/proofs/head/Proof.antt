@@ -1,4 +1,4 @@
--- `regmap::head` meets its contract: the version decides.
+-- `head` meets its contract: the version decides.
 use mathlib.Core.Path.{ap, _∙_}
 use borrow.Author.Needs.{needs}
 use Rattle.map_format.specs.Format.{headSizeIn, headOf}

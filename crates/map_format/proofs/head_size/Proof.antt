@@ -1,4 +1,4 @@
--- `regmap::head_size` meets its contract: version 2 has one byte more.
+-- `head_size` meets its contract: version 2 has one byte more.
 use mathlib.Core.Path.{refl}
 use borrow.Author.Tests.{eq-eqb, ne-eqb}
 use Rattle.base_bits.proofs.Cases.{yes, no}

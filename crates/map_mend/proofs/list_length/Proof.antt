@@ -7,12 +7,12 @@ use lib.ListN as list
 use Rattle.map_format.specs.declared.Entry.{Entry}
 use Rattle.map_format.specs.Format.{entryAt}
 use Rattle.map_mend.specs.Mend.{alteredAt, alteredFrom}
-use Rattle.map_mend.proofs.Listed.{Counting, begun, again, counted-most, ended}
+use Rattle.map_mend.proofs.Listed.{ListCounting, list-counting-begun, again, counted-most, ended}
 use Rattle.map_mend.proofs.list_length.Statement.{statement}
 use Rattle.map_mend.proofs.list_length.Tie as tie
 
 abbrev Inv-loop : tie.InvT-loop
-Inv-loop map n length₀ address₀ length address = Counting map n length address
+Inv-loop map n length₀ address₀ length address = ListCounting map n length address
 
 abbrev μ-loop : tie.MeasureT-loop
 μ-loop map n length₀ address₀ length address = n - address
@@ -21,7 +21,7 @@ abbrev μ-loop : tie.MeasureT-loop
 counted :
     (c : tie.After-listed-size Inv-loop μ-loop)
     → let at = c .before .before .before in
-    Counting (at .before .before .before .args .map .now) (at .before .count .result) (at .loop .length + c .listed-size .result) (at .loop .address + 1)
+    ListCounting (at .before .before .before .args .map .now) (at .before .count .result) (at .loop .length + c .listed-size .result) (at .loop .address + 1)
 counted c =
     let at = c .before .before .before in
     let m = at .before .before .before .args .map .now in
@@ -33,7 +33,7 @@ count-requires : tie.Need-count-requires Inv-loop μ-loop
 count-requires c κs = search needs
 
 loop-holds : tie.Need-loop-holds Inv-loop μ-loop
-loop-holds c = begun _ _
+loop-holds c = list-counting-begun _ _
 
 entry-at-requires : tie.Need-entry-at-requires Inv-loop μ-loop
 entry-at-requires c κs = search needs

@@ -6,8 +6,8 @@ use borrow.Author.Needs.{needs}
 use Rattle.map_format.specs.Format.{countOf, registerAt}
 use Rattle.map_test.specs.MapTest.{Formed}
 use Rattle.map_mend.specs.Entry.{mendedAt}
-use Rattle.map_mend.proofs.Laws.{accepted, is-formed}
-use Rattle.map_mend.proofs.Halfway.{Halfway, begun, same-size, old-entry, list-room, map-room, again, ended}
+use Rattle.map_mend.proofs.Laws.{mend-tests, is-formed}
+use Rattle.map_mend.proofs.Halfway.{Halfway, halfway-begun, same-size, old-entry, list-room, map-room, again, ended}
 use Rattle.map_mend.proofs.mend_entries.Statement.{statement}
 use Rattle.map_mend.proofs.mend_entries.Tie as tie
 
@@ -39,7 +39,7 @@ count-requires : tie.Need-count-requires Inv-loop μ-loop
 count-requires c κs = search needs
 
 loop-holds : tie.Need-loop-holds Inv-loop μ-loop
-loop-holds c = let s = c .before .before .before .before in begun _ _ (form s) (accepted _ _ (s .pre) .fits)
+loop-holds c = let s = c .before .before .before .before in halfway-begun _ _ (form s) (mend-tests _ _ (s .pre) .fits)
 
 entry-at-requires : tie.Need-entry-at-requires Inv-loop μ-loop
 entry-at-requires c κs = search needs

@@ -1,4 +1,4 @@
--- `maptest::entries_good` meets its contract: the table's places and all beyond them are all entries.
+-- `entries_good` meets its contract: the table's places and all beyond them are all entries.
 use Rattle.map_test.proofs.Entries.{two-parts}
 use Rattle.map_test.proofs.entries_good.Statement.{statement}
 use Rattle.map_test.proofs.entries_good.Tie as tie

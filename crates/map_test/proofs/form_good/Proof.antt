@@ -1,4 +1,4 @@
--- `maptest::form_good` meets its contract: its tests are those of the form, in their order. Two bytes bound a word, so that no sum wraps.
+-- `form_good` meets its contract: its tests are those of the form, in their order. Two bytes bound a word, so that no sum wraps.
 use mathlib.Core.Bool.{true}
 use Prim.Native.Nat.{_<_, _^_}
 use native.Mathlib.Omega.{arith}

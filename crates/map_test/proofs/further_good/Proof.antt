@@ -1,4 +1,4 @@
--- `maptest::further_good` meets its contract: its tests are the further ones, in their order.
+-- `further_good` meets its contract: its tests are the further ones, in their order.
 use mathlib.Core.Bool.{true}
 use borrow.Author.Needs.{needs}
 use Rattle.base_chip.specs.declared.Chip.the-variants.{Newer}

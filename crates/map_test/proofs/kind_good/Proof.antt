@@ -1,4 +1,4 @@
--- `maptest::kind_good` meets its contract: for each kind the joined tests are that kind's rule.
+-- `kind_good` meets its contract: for each kind the joined tests are that kind's rule.
 use mathlib.Core.Path.{_≡_, refl}
 use mathlib.Core.Bool.{Bool, true, false, cond, _&&_, _||_, and-true, and-false}
 use Prim.Native.Nat.{ℕ, zero, suc}

@@ -1,4 +1,4 @@
--- `maptest::map_number` meets its contract: the form is tested first, and then the rules, as the number's chain asks.
+-- `map_number` meets its contract: the form is tested first, and then the rules, as the number's chain asks.
 use mathlib.Core.Path.{_≡_, refl, sym, _∙_}
 use mathlib.Core.Bool.{true}
 use borrow.Author.Needs.{needs}

@@ -1,4 +1,4 @@
--- `maptest::map_test_older` meets its contract: the map's own number first, and number 12 only of a good map.
+-- `map_test_older` meets its contract: the map's own number first, and number 12 only of a good map.
 use mathlib.Core.Path.{refl, sym, _∙_}
 use borrow.Author.Needs.{needs}
 use borrow.Author.Tests.{eq-eqb, ne-eqb}

@@ -1,4 +1,4 @@
--- `maptest::older_good` meets its contract: each part has its table.
+-- `older_good` meets its contract: each part has its table.
 use mathlib.Core.Path.{ap, sym, _∙_}
 use native.Mathlib.Omega.{arith}
 use borrow.Author.Needs.{needs}

@@ -1,4 +1,4 @@
--- `maptest::others_good` meets its contract: as for the places of a table, and by the empty table every place is free.
+-- `others_good` meets its contract: as for the places of a table, and by the empty table every place is free.
 use mathlib.Core.Path.{ap, _∙_}
 use mathlib.Core.Bool.{not}
 use mathlib.Core.List.{[]}
@@ -9,7 +9,7 @@ use lib.Dec.{eqb}
 use Rattle.map_format.specs.declared.Entry.{Entry}
 use Rattle.map_format.specs.Format.{control}
 use Rattle.map_test.specs.MapTest.{kindRule, placeRule, entriesGood}
-use Rattle.map_test.proofs.Entries.{Tested, begun, again, ended}
+use Rattle.map_test.proofs.Entries.{Tested, testing-begun, again, ended}
 use Rattle.map_test.proofs.others_good.Statement.{statement}
 use Rattle.map_test.proofs.others_good.Tie as tie
 
@@ -25,7 +25,7 @@ count-requires c κs = search needs
 loop-holds : tie.Need-loop-holds Inv-loop μ-loop
 loop-holds c =
     let p = c .before .before .pre in
-    begun [] _ _ _ (omega (arith, p .0 .least, p .1, c .count .ensures))
+    testing-begun [] _ _ _ (omega (arith, p .0 .least, p .1, c .count .ensures))
 
 register-at-requires : tie.Need-register-at-requires Inv-loop μ-loop
 register-at-requires c κs =

@@ -1,4 +1,4 @@
--- `maptest::places_good` meets its contract: what the loop has found, with the entries that are left, is the whole run.
+-- `places_good` meets its contract: what the loop has found, with the entries that are left, is the whole run.
 use mathlib.Core.Path.{ap, _∙_}
 use Prim.Native.Nat.{_-_}
 use native.Mathlib.Nat.{sub-zero}
@@ -8,7 +8,7 @@ use lib.ListN.{length}
 use Rattle.map_format.specs.declared.Entry.{Entry}
 use Rattle.map_test.specs.MapTest.{kindRule, placeRule}
 use Rattle.map_test.proofs.PlaceKinds.{at-place}
-use Rattle.map_test.proofs.Entries.{Tested, begun, again, ended}
+use Rattle.map_test.proofs.Entries.{Tested, testing-begun, again, ended}
 use Rattle.map_test.proofs.places_good.Statement.{statement}
 use Rattle.map_test.proofs.places_good.Tie as tie
 
@@ -19,7 +19,7 @@ abbrev μ-loop : tie.MeasureT-loop
 μ-loop kinds map good₀ address₀ good address = length kinds - address
 
 loop-holds : tie.Need-loop-holds Inv-loop μ-loop
-loop-holds c = begun _ _ 0 _ (omega arith)
+loop-holds c = testing-begun _ _ 0 _ (omega arith)
 
 register-at-requires : tie.Need-register-at-requires Inv-loop μ-loop
 register-at-requires c κs =

@@ -1,4 +1,4 @@
--- `maptest::product_good` meets its contract: the two defaults make the product number, high byte first.
+-- `product_good` meets its contract: the two defaults make the product number, high byte first.
 use borrow.Author.Needs.{needs}
 use Rattle.map_test.proofs.product_good.Statement.{statement}
 use Rattle.map_test.proofs.product_good.Tie as tie

@@ -1,4 +1,4 @@
--- `maptest::register_at` meets its contract: inside a map of good form the three bytes of an entry are there.
+-- `register_at` meets its contract: inside a map of good form the three bytes of an entry are there.
 use borrow.Author.Needs.{needs}
 use Rattle.map_format.proofs.Laws.{entry-bytes}
 use Rattle.map_test.proofs.register_at.Statement.{statement}

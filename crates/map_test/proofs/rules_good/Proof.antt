@@ -1,4 +1,4 @@
--- `maptest::rules_good` meets its contract: by the chip; an older part has no further rule.
+-- `rules_good` meets its contract: by the chip; an older part has no further rule.
 use mathlib.Core.Path.{ap, sym, _∙_}
 use mathlib.Core.Bool.{_&&_, and-true}
 use native.Mathlib.Omega.{arith}

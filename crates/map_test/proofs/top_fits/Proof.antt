@@ -1,4 +1,4 @@
--- `maptest::top_fits` meets its contract: by the chip, and a top that an older part can have is small enough for one more to be a number.
+-- `top_fits` meets its contract: by the chip, and a top that an older part can have is small enough for one more to be a number.
 use mathlib.Core.Path.{_≡_, ap, sym, _∙_}
 use mathlib.Core.Bool.{Bool, true, _&&_}
 use Prim.Native.Nat.{_+_, _-_}

@@ -42,13 +42,12 @@ same-length-7 c = search needs
 
 returns-2 : tie.Need-returns-2
 returns-2 c =
-    let a =
-    c .before .before .before .before .before .before .before .before .before .before .before .before .before .before .before .before .before .before .before .before .before .before .before .before .before .before .args in
+    let run = c .before .before .before .before .before .before .before .before .before .before in
+    let accepted = run .before .before .before .before .before in
+    let a = accepted .before .before .before .before .before .before .before .before .before .before .before .args in
     let w = readerState (a .session) (a .active .now) (a .buffer .now) (a .words .now) in
-    read-done (a .chip) (a .map .now) w (a .samples .now) (a .records .now) _
-    (c .before .before .before .before .before .before .before .before .before .before .before .before .before .before .before .before .read-refusal .ensures)
-    (c .before .before .before .before .before .before .before .before .before .before .before .before .before .before .before .if1 .left)
-    _ _ _ (c .before .before .before .before .before .before .before .before .before .before .run-samples .ensures .done refl)
+    read-done (a .chip) (a .map .now) w (a .samples .now) (a .records .now) _ (accepted .before .read-refusal .ensures) (accepted .if1 .left)
+    _ _ _ (run .run-samples .ensures .done refl)
 
 pub read-tested-spec : {M : Type 1} → statement M
 read-tested-spec =

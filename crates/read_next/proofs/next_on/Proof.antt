@@ -80,12 +80,10 @@ same-length-10 c = search needs
 
 returns-3 : tie.Need-returns-3
 returns-3 c =
-    next-done _ _ _ _ _ _ _ _ _
-    (c .before .before .before .before .before .before .before .before .before .before .before .before .before .before .before .before .before .before .before .before .before .samples-refusal .ensures)
-    (c .before .before .before .before .before .before .before .before .before .before .before .before .before .before .before .before .before .before .before .before .if1 .left)
-    (c .before .before .before .before .before .before .before .before .before .before .before .before .before .before .before .before .before .before .first-record .ensures)
-    (c .before .before .before .before .before .before .before .before .before .before .before .before .before .before .before .before .if2 .left)
-    (c .before .before .before .before .before .before .before .before .before .before .run-samples .ensures)
+    let run = c .before .before .before .before .before .before .before .before .before .before in
+    let found = run .before .before .before .before .before .before in
+    next-done _ _ _ _ _ _ _ _ _ (found .before .before .before .before .before .samples-refusal .ensures) (found .before .before .before .before .if1 .left)
+    (found .before .before .first-record .ensures) (found .if2 .left) (run .run-samples .ensures)
 
 pub next-on-spec : {M : Type 1} → statement M
 next-on-spec =

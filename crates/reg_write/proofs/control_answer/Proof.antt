@@ -1,4 +1,4 @@
--- `writing::control_answer` meets its contract: the reading under the settings after the write.
+-- `control_answer` meets its contract: the reading under the settings after the write.
 use borrow.Author.Needs.{needs}
 use Rattle.reg_write.proofs.control_answer.Statement.{statement}
 use Rattle.reg_write.proofs.control_answer.Tie as tie

@@ -1,4 +1,4 @@
--- `writing::effect_at` meets its contract: beyond the banks a register is blank, and takes nothing; else the effect is that of the register's
+-- `effect_at` meets its contract: beyond the banks a register is blank, and takes nothing; else the effect is that of the register's
 -- entry and of its byte in each stage.
 use borrow.Author.Needs.{needs}
 use mathlib.Core.Path.{_≡_, _∙_}

@@ -63,7 +63,8 @@ put-samples-requires c κs =
     let part = take (length (s .args .out .now) - s .args .n) (drop (s .args .n) (s .args .out .now)) in
     let number =
     ap (λ (o : Order). sendNumber Newer o (length part)) (same-order (c .before .before))
-    ∙ ap (λ (l : List ℕ). sendNumber Newer (orderAt (s .args .settings) (s .args .list .now) (s .args .at)) (length l)) (rest-part (s .args .out .now) (s .args .n))
+    ∙ ap (λ (l : List ℕ). sendNumber Newer (orderAt (s .args .settings) (s .args .list .now) (s .args .at)) (length l))
+    (rest-part (s .args .out .now) (s .args .n))
     ∙ s .pre .1 .0 in
     (number, s .pre .1 .1)
 

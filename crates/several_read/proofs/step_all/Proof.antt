@@ -1,6 +1,6 @@
 -- `step_all` meets its contract. Before the first turn the chips, the memory and the records are as they were handed in. A turn steps its
 -- chip by `step_member`, whose contract says what the three are after it. When no turn is left they are what the
--- contract says of all turns. These are `begun`, `stepped` and `ended` of ../Reached.antt, and `nearer` says that the turns end. What is
+-- contract says of all turns. These are `turns-begun`, `stepped` and `ended` of ../Reached.antt, and `nearer` says that the turns end. What is
 -- left is that the code does just this: a walk of its MIR, by hand, as the borrow checker does not
 -- cover a lent list of structs. The borrow of the list is opened once, before the loop, and closed once, after it. A turn copies its chip
 -- out of the row and stores what came back in its place. The memory and the records are lent again for
@@ -54,7 +54,7 @@ use Rattle.several_chips.specs.Contracts.{turn}
 use Rattle.several_chips.proofs.Member as T
 use Rattle.several_chips.proofs.Turn as U
 use Rattle.several_chips.proofs.Turn.Laws as U′
-use Rattle.several_read.proofs.Reached.{begun, ended}
+use Rattle.several_read.proofs.Reached.{turns-begun, ended}
 use Rattle.several_read.proofs.samples_to_read as samples-to-read
 use Rattle.several_read.proofs.samples_to_read.Symbol as samples-to-read-def
 use Rattle.several_read.proofs.samples_to_read.Symbol.{name as #samples-to-read}
@@ -123,7 +123,7 @@ module _ {M : Type 1} (c : Entry M) (frame : Frame c) where
   opened t-is =
       opens-slice ! tt T.the-row (ws c) (b c) (o c) $ first ! $ blocks ! $
       loops ! 𝓣 (Nearer c) (Nearer-wf c) (At c frame) turns
-      (turn 0 0 0, ws c, mem c, old c, begun (m c) (ws c) (mem c) (bytes c) (old c) number known held, t-is)
+      (turn 0 0 0, ws c, mem c, old c, turns-begun (m c) (ws c) (mem c) (bytes c) (old c) number known held, t-is)
 
   -- the first three statements: local i is at 48 - 2i
   begins : Sq W

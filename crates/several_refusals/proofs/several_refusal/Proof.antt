@@ -48,9 +48,8 @@ after-lengths c n e =
     after-map (c .before .before .before) n (yes _ (sym fit ∙ not-false _ (c .if5 .left)) e)
 
 good : (c : tie.Else6) → let a =
-    c .before .before .before .before .before .before .before .before .before .before .before .before .before .before .before .before .args in severalSamplesGood
-    (a .group .count) (a .samples .now)
-    ≡ true
+    c .before .before .before .before .before .before .before .before .before .before .before .before .before .before .before .before .args in
+    severalSamplesGood (a .group .count) (a .samples .now) ≡ true
 good c = sym (c .before .samples-good .ensures) ∙ not-false _ (c .if6 .left)
 
 after-samples : (c : tie.Else6) → let a =

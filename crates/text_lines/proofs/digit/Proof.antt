@@ -1,4 +1,4 @@
--- `lines::digit` meets its contract: the table computes to its rule, at all of its sixteen entries.
+-- `digit` meets its contract: the table computes to its rule, at all of its sixteen entries.
 use mathlib.Core.Path.{ap, _∙_}
 use native.Mathlib.Nat.{zero-add}
 use borrow.Author.Needs.{needs}

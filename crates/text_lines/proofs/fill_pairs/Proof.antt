@@ -1,4 +1,4 @@
--- `lines::fill_pairs` meets its contract: the entries up to the present one are pairs.
+-- `fill_pairs` meets its contract: the entries up to the present one are pairs.
 use mathlib.Core.Path.{sym, _∙_}
 use Prim.Native.Nat.{_-_}
 use native.Mathlib.Omega.{arith}

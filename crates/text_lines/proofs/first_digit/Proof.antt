@@ -1,4 +1,4 @@
--- `lines::first_digit` meets its contract: the table has the byte's digits, the first lowest.
+-- `first_digit` meets its contract: the table has the byte's digits, the first lowest.
 use Prim.Native.Nat.{_<_}
 use native.Mathlib.Omega.{arith}
 use Rattle.text_lines.proofs.Laws.{pair-first}

@@ -1,4 +1,4 @@
--- `lines::last_digit` meets its contract: the table has the byte's digits, the last highest.
+-- `last_digit` meets its contract: the table has the byte's digits, the last highest.
 use Prim.Native.Nat.{_%_, _<_}
 use native.Mathlib.Omega.{arith}
 use Rattle.text_lines.proofs.Laws.{digit-byte, pair-last}

@@ -1,4 +1,4 @@
--- `lines::letter` meets its contract: a test of the kind for each letter.
+-- `letter` meets its contract: a test of the kind for each letter.
 use borrow.Author.Tests.{eq-eqb, ne-eqb}
 use Rattle.text_lines.proofs.letter.Statement.{statement}
 use Rattle.text_lines.proofs.letter.Tie as tie

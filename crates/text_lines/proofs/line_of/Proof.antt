@@ -1,4 +1,4 @@
--- `lines::line_of` meets its contract: byte by byte, the line of the definition.
+-- `line_of` meets its contract: byte by byte, the line of the definition.
 use mathlib.Core.List.{_∷_, _++_}
 use Rattle.text_lines.specs.Text.{bytesOf}
 use Rattle.text_lines.specs.Line.{lineOf}

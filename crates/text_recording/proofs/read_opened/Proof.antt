@@ -40,16 +40,10 @@ write-map-line-requires c κs = tt
 
 read-trace-requires : tie.Need-read-trace-requires
 read-trace-requires c κs =
-    let good =
-    opened-good _ _ _ (c .before .before .before .before .before .before .before .before .before .before .before .open-on .ensures)
-    (c .before .before .before .before .before .before .if1 .left) in (
-      good,
-      top-of-map _ _
-          (c .before .before .before .before .before .before .before .before .before .before .before .before .before .before .chip-of .ensures) good,
-      words-of-map _ _
-          (c .before .before .before .before .before .before .before .before .before .before .before .before .before .before .before .before .before .before .before .args .words .now) good
-          (c .before .before .before .before .before .before .before .before .before .before .before .before .before .before .before .before .before .before .before .pre),
-    )
+    let opened = c .before .before .before .before .before .before .before .before .before .before .before in
+    let start = opened .before .before .before .before .before .before .before .before in
+    let good = opened-good _ _ _ (opened .open-on .ensures) (c .before .before .before .before .before .before .if1 .left) in
+    (good, top-of-map _ _ (opened .before .before .before .chip-of .ensures) good, words-of-map _ _ (start .args .words .now) good (start .pre))
 
 same-length-3 : tie.Need-same-length-3
 same-length-3 c = search needs

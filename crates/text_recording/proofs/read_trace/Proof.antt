@@ -35,12 +35,16 @@ in-loop r = r .before .before .before .before .before .before .before .before .b
 abbrev filled : Read → tie.After-fill Inv-loop μ-loop
 filled r = r .before .before .before .before .before .before .before .before .before .before
 
-abbrev taken : Read → tie.After-got Inv-loop μ-loop
-taken r = r .before .before .before .before .before .before .before
+abbrev after-got : Read → tie.After-got Inv-loop μ-loop
+after-got r = r .before .before .before .before .before .before .before
+
+-- where its lines were written
+abbrev piece-of : tie.After-write-lines Inv-loop μ-loop → Read
+piece-of w = w .before .before .before .before .before .before .before .before .before .before .before .before .before .before
 
 -- how many samples were taken
-few-samples : (r : Read) → taken r .got .given .0 .0 ≤ piece
-few-samples r = within-bytes (taken r .got .given .1) (filled r .fill .ensures)
+few-samples : (r : Read) → after-got r .got .given .0 .0 ≤ piece
+few-samples r = within-bytes (after-got r .got .given .1) (filled r .fill .ensures)
 
 -- a piece is refused with 1 to 5
 refused-within : (r : Read) → r .read-tested .result .number ≤ 5
@@ -123,7 +127,8 @@ slice-aggregate-read-tested c =
 
 read-tested-requires : tie.Need-read-tested-requires Inv-loop μ-loop
 read-tested-requires c κs =
-    c .before .before .before .before .before .before .before .before .before .before .before .before .before .before .before .before .before .before .before .before .before .before .pre .0
+    let head = c .before .before .before .before .before .before .before .before .before .before .before .before .before in
+    head .before .before .before .before .before .before .before .before .before .pre .0
 
 refuse-requires : tie.Need-refuse-requires Inv-loop μ-loop
 refuse-requires c κs = (omega (arith, c .if2 .taken), refused-within (c .before .before .before .before .before .before .before .before .before))
@@ -229,20 +234,17 @@ ended-requires-4 c κs = tt
 
 same-length-10 : tie.Need-same-length-10 Inv-loop μ-loop
 same-length-10 c =
-    let r =
-    c .before .before .before .before .before .before .before .before .before .before .before .before .before .before .before .before .before .before .before .before .before in
+    let r = piece-of (c .before .before .before .before .before .before .before) in
     r .read-tested .kept .1 .1 .1 .0 ∙ at-loop r .loop .inv .same-active
 
 same-length-11 : tie.Need-same-length-11 Inv-loop μ-loop
 same-length-11 c =
-    let r =
-    c .before .before .before .before .before .before .before .before .before .before .before .before .before .before .before .before .before .before .before .before .before in
+    let r = piece-of (c .before .before .before .before .before .before .before) in
     r .read-tested .kept .1 .1 .1 .1 .0 ∙ at-loop r .loop .inv .same-buffer
 
 same-length-12 : tie.Need-same-length-12 Inv-loop μ-loop
 same-length-12 c =
-    let r =
-    c .before .before .before .before .before .before .before .before .before .before .before .before .before .before .before .before .before .before .before .before .before in
+    let r = piece-of (c .before .before .before .before .before .before .before) in
     r .read-tested .kept .1 .1 .1 .1 .1 .0 ∙ at-loop r .loop .inv .same-words
 
 returns-4 : tie.Need-returns-4 Inv-loop μ-loop
@@ -250,15 +252,13 @@ returns-4 c = rw (c .ended4 .ensures) (c .before .close .ensures)
 
 loop-less : tie.Need-loop-less Inv-loop μ-loop
 loop-less c =
-    let r =
-    c .before .before .before .before .before .before .before .before .before .before .before .before .before .before .before .before .before .before .before .before in
+    let r = piece-of (c .before .before .before .before .before .before) in
     fewer-left _ _ (omega (arith, few-samples r, filled r .fill .kept .1 .0, at-loop r .loop .inv .samples-room)) (in-loop r .if1 .taken) _
     (c .before .before .counted .ensures) (c .before .if4 .left)
 
 loop-again : tie.Need-loop-again Inv-loop μ-loop
 loop-again c =
-    let r =
-    c .before .before .before .before .before .before .before .before .before .before .before .before .before .before .before .before .before .before .before .before in
+    let r = piece-of (c .before .before .before .before .before .before) in
     let k = r .read-tested .kept in
     let h = at-loop r .loop .inv in
     record {

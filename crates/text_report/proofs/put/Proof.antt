@@ -1,4 +1,4 @@
--- `report::put` meets its contract: the bytes that are left, stored from the present place on, would make the buffer what it is to
+-- `put` meets its contract: the bytes that are left, stored from the present place on, would make the buffer what it is to
 -- be.
 use mathlib.Core.Path.{_≡_, refl}
 use Prim.Native.Nat.{_+_, _-_, _≤_}

@@ -1,4 +1,4 @@
--- `report::put_count_line` meets its contract: three words, each with its number, one after the other.
+-- `put_count_line` meets its contract: three words, each with its number, one after the other.
 use native.Mathlib.Omega.{arith}
 use Rattle.text_report.proofs.Laws.{number-length, placed-counts, placed-printed}
 use borrow.Author.Needs.{needs}

@@ -1,4 +1,4 @@
--- `report::put_lines` meets its contract: the lines that are left, put from the present place on, would make the buffer what it is
+-- `put_lines` meets its contract: the lines that are left, put from the present place on, would make the buffer what it is
 -- to be.
 use mathlib.Core.Path.{ap, _∙_}
 use Prim.Native.Nat.{_-_}
@@ -6,7 +6,7 @@ use native.Mathlib.Omega.{arith}
 use lib.ListN.{length-drop}
 use Rattle.text_lines.specs.Line.{lineOf}
 use Rattle.text_lines.proofs.Laws.{line-length}
-use Rattle.text_report.proofs.Laws.{Listing, begun, turned, ended, from-on}
+use Rattle.text_report.proofs.Laws.{Listing, listing-begun, turned, ended, from-on}
 use Rattle.text_report.proofs.put_lines.Statement.{statement}
 use Rattle.text_report.proofs.put_lines.Tie as tie
 
@@ -20,7 +20,7 @@ least-requires : tie.Need-least-requires Inv-loop μ-loop
 least-requires c κs = tt
 
 loop-holds : tie.Need-loop-holds Inv-loop μ-loop
-loop-holds c = begun _ _ _
+loop-holds c = listing-begun _ _ _
 
 mul-line-of : tie.Need-mul-line-of Inv-loop μ-loop
 mul-line-of c = omega arith

@@ -1,4 +1,4 @@
--- `report::put_map_line` meets its contract: one word and one number, from the start of the buffer on.
+-- `put_map_line` meets its contract: one word and one number, from the start of the buffer on.
 use native.Mathlib.Omega.{arith}
 use Rattle.text_report.specs.Text.{mapLine}
 use Rattle.text_report.proofs.Laws.{number-length, placed-printed}

@@ -1,4 +1,4 @@
--- `report::put_number` meets its contract: its parts, put one after the other; the fewest digits that hold the number are those of
+-- `put_number` meets its contract: its parts, put one after the other; the fewest digits that hold the number are those of
 -- its decimal.
 use mathlib.Core.Path.{_∙_}
 use Prim.Native.Nat.{_≤_}

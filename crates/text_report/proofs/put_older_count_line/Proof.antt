@@ -1,4 +1,4 @@
--- `report::put_older_count_line` meets its contract: two words, each with its number, one after the other.
+-- `put_older_count_line` meets its contract: two words, each with its number, one after the other.
 use native.Mathlib.Omega.{arith}
 use Rattle.text_report.proofs.Laws.{number-length, placed-older-counts, placed-printed}
 use borrow.Author.Needs.{needs}

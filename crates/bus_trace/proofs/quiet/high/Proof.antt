@@ -17,7 +17,9 @@ returns : tie.Need-returns
 returns c =
     let a = c .before .before .before in
     let p = progress (c .before .level-of .result) (a .args .port .bits) (a .args .port .value) (a .args .from) in
-    rw (c .past-high .ensures .level-is) (past-high (a .args .chip) (a .pre .0) p (c .past-high .result .at) (own (a .args .chip) p (a .pre .1) (a .pre .2) (c .before .level-of .ensures) refl refl) (c .past-high .ensures .past .high))
+    rw (c .past-high .ensures .level-is)
+    (past-high (a .args .chip) (a .pre .0) p (c .past-high .result .at)
+    (own (a .args .chip) p (a .pre .1) (a .pre .2) (c .before .level-of .ensures) refl refl) (c .past-high .ensures .past .high))
 
 pub high-spec : {M : Type 1} → statement M
 high-spec = tie.close (tie.spec level-of-requires past-high-requires returns)

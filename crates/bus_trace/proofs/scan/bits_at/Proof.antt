@@ -11,14 +11,14 @@ use Rattle.bus_words.specs.Words.{wordOf}
 use Rattle.bus_words.proofs.Lanes.{lows-le}
 use borrow.Author.Needs.{needs}
 use Rattle.bus_trace.specs.Scan.{progress, ProgressBounds, RisesAhead, LanesTaken}
-use Rattle.bus_trace.proofs.Lanes.{taken, gathered-begun, next-rise, gathered-more}
+use Rattle.bus_trace.proofs.Lanes.{takenBits, gathered-begun, next-rise, gathered-more}
 use Rattle.bus_trace.proofs.scan.bits_at.Statement.{statement}
 use Rattle.bus_trace.proofs.scan.bits_at.Tie as tie
 
 abbrev Inv-loop : tie.InvT-loop
 Inv-loop samples rises line lsb last at bits₀ value₀ rising₀ bits value rising =
     (l : ℕ) → ProgressBounds samples last (progress l bits₀ value₀ at) → RisesAhead samples (progress l bits₀ value₀ at) rises
-    → LanesTaken samples line lsb last (progress l bits₀ value₀ at) (taken bits value rising)
+    → LanesTaken samples line lsb last (progress l bits₀ value₀ at) (takenBits bits value rising)
 
 abbrev μ-loop : tie.MeasureT-loop
 μ-loop samples rises line lsb last at bits₀ value₀ rising₀ bits value rising = rising
@@ -45,7 +45,9 @@ shared-slice-read-x : tie.Need-shared-slice-read-x Inv-loop μ-loop
 shared-slice-read-x c =
     let a = c .before .before .before .before .before .before in
     let g = c .before .before .before .before .loop .inv (a .args .from .level) (a .pre .0) (a .pre .1) in
-    let f = next-rise (λ k. c .before .before .before .before .before .shared-slice-known .given k .fits) (a .pre .1 .room) g (c .before .before .before .loop-test .taken) in
+    let f =
+    next-rise (λ k. c .before .before .before .before .before .shared-slice-known .given k .fits)
+    (a .pre .1 .room) g (c .before .before .before .loop-test .taken) in
     omega (arith, c .before .lane .ensures, f .zeros, f .inside, lows-le 8 (wordOf (a .args .samples .now) (a .args .from .at) 8), a .pre .1 .room)
 
 bit-at-requires : tie.Need-bit-at-requires Inv-loop μ-loop
@@ -77,12 +79,17 @@ loop-again c =
     λ l s m.
     let a = c .before .before .before .before .before .before .before .before in
     let g = c .before .before .before .before .before .before .loop .inv l s m in
-    let f = next-rise (λ k. c .before .before .before .before .before .before .before .shared-slice-known .given k .fits) (m .room) g (c .before .before .before .before .before .loop-test .taken) in
+    let f =
+    next-rise (λ k. c .before .before .before .before .before .before .before .shared-slice-known .given k .fits)
+    (m .room) g (c .before .before .before .before .before .loop-test .taken) in
     let e = c .before .before .before .lane .ensures ∙ f .zeros in
     let b = c .before .bit-at .ensures ∙ ap (λ (k : ℕ). bitAt (getD (a .args .samples .now) (a .args .from .at + k) 0) (a .args .line)) e in
-    let v = c .shift-in .ensures ∙ ap (λ (b : Bool). shiftedIn (a .args .lsb-first) (c .before .before .before .before .before .before .loop .value) (c .before .before .before .before .before .before .loop .bits) b) b in
+    let v =
+    c .shift-in .ensures ∙ ap (λ (b : Bool). shiftedIn (a .args .lsb-first) (c .before .before .before .before .before .before .loop .value)
+    (c .before .before .before .before .before .before .loop .bits) b) b in
     let few = c .before .before .before .before .if1 .left in
-    rw v (gathered-more (λ k. c .before .before .before .before .before .before .before .shared-slice-known .given k .fits) (m .room) g f (omega (arith, few, g .standing .few)))
+    rw v (gathered-more (λ k. c .before .before .before .before .before .before .before .shared-slice-known .given k .fits)
+    (m .room) g f (omega (arith, few, g .standing .few)))
 
 returns-2 : tie.Need-returns-2 Inv-loop μ-loop
 returns-2 c =

@@ -27,12 +27,19 @@ lane-requires c κs = search needs
 add-t13 : tie.Need-add-t13
 add-t13 c =
     let a = c .before .before .before .before .before .before in
-    omega (arith, rise-inside (λ k. c .before .before .before .before .before .shared-slice-known .given k .fits) (going-begun (a .pre .0)) (a .pre .2) (c .before .before .before .bits-at .ensures) (c .before .if1 .taken) _ (c .lane .ensures), a .pre .2, a .good)
+    omega (
+      arith,
+      rise-inside (λ k. c .before .before .before .before .before .shared-slice-known .given k .fits) (going-begun (a .pre .0))
+          (a .pre .2) (c .before .before .before .bits-at .ensures) (c .before .if1 .taken) _ (c .lane .ensures),
+      a .pre .2,
+      a .good,
+    )
 
 returns : tie.Need-returns
 returns c =
     let a = c .before .before .before .before .before .before in
-    took-rise (λ k. c .before .before .before .before .before .shared-slice-known .given k .fits) (going-begun (a .pre .0)) (a .pre .2) (c .before .before .before .bits-at .ensures) (c .before .if1 .taken) _ (c .lane .ensures)
+    took-rise (λ k. c .before .before .before .before .before .shared-slice-known .given k .fits) (going-begun (a .pre .0))
+    (a .pre .2) (c .before .before .before .bits-at .ensures) (c .before .if1 .taken) _ (c .lane .ensures)
 
 lows-requires : tie.Need-lows-requires
 lows-requires c κs = search needs
@@ -52,8 +59,10 @@ returns-2 : tie.Need-returns-2
 returns-2 c =
     let a = c .before .before .before .before .before .before .before in
     let w = a .pre .3 in
-    took-before-high (λ k. c .before .before .before .before .before .before .shared-slice-known .given k .fits) (going-begun (a .pre .0)) (a .pre .2) (c .before .before .before .before .bits-at .ensures)
-    (c .before .before .if1 .left) (λ z. omega (arith, a .pre .4, ap (highsIn 8) w, z)) _ _ (c .before .lows .ensures ∙ ap (lowsIn 8) w) (c .level-at .ensures ∙ ap (levelIn (c .before .lows .result) (a .args .from .level)) w)
+    took-before-high (λ k. c .before .before .before .before .before .before .shared-slice-known .given k .fits)
+    (going-begun (a .pre .0)) (a .pre .2) (c .before .before .before .before .bits-at .ensures)
+    (c .before .before .if1 .left) (λ z. omega (arith, a .pre .4, ap (highsIn 8) w, z)) _ _ (c .before .lows .ensures ∙ ap (lowsIn 8) w)
+    (c .level-at .ensures ∙ ap (levelIn (c .before .lows .result) (a .args .from .level)) w)
 
 pub take-before-high-spec : {M : Type 1} → statement M
 take-before-high-spec =

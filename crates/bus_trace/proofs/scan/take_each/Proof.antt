@@ -9,7 +9,8 @@ use Rattle.bus_trace.proofs.scan.take_each.Statement.{statement}
 use Rattle.bus_trace.proofs.scan.take_each.Tie as tie
 
 abbrev Inv-loop : tie.InvT-loop
-Inv-loop samples line lsb last level₀ bits₀ value₀ at₀ level bits value at = Going samples line lsb last (progress level₀ bits₀ value₀ at₀) (progress level bits value at)
+Inv-loop samples line lsb last level₀ bits₀ value₀ at₀ level bits value at =
+    Going samples line lsb last (progress level₀ bits₀ value₀ at₀) (progress level bits value at)
 
 abbrev μ-loop : tie.MeasureT-loop
 μ-loop samples line lsb last level₀ bits₀ value₀ at₀ level bits value at = length samples - at
@@ -27,7 +28,9 @@ loop-less : tie.Need-loop-less Inv-loop μ-loop
 loop-less c = omega arith
 
 loop-again : tie.Need-loop-again Inv-loop μ-loop
-loop-again c = going-idle (c .before .before .before .before .loop .inv) (c .before .before .before .loop-test .taken) (even-level _ (c .before .if1 .left)) (c .if2 .taken)
+loop-again c =
+    going-idle (c .before .before .before .before .loop .inv)
+    (c .before .before .before .loop-test .taken) (even-level _ (c .before .if1 .left)) (c .if2 .taken)
 
 bit-at-requires : tie.Need-bit-at-requires Inv-loop μ-loop
 bit-at-requires c κs = omega (arith, c .before .before .before .before .before .before .before .pre .1)
@@ -47,7 +50,9 @@ loop-less-2 c = omega arith
 loop-again-2 : tie.Need-loop-again-2 Inv-loop μ-loop
 loop-again-2 c =
     rw (c .shift-in .ensures, c .before .bit-at .ensures)
-    (going-bit (c .before .before .before .before .before .before .before .loop .inv) (c .before .before .before .before .before .before .loop-test .taken) (even-level _ (c .before .before .before .before .if1 .left)) (c .before .before .before .if2 .left) (c .before .before .if3 .left))
+    (going-bit (c .before .before .before .before .before .before .before .loop .inv)
+    (c .before .before .before .before .before .before .loop-test .taken) (even-level _ (c .before .before .before .before .if1 .left))
+    (c .before .before .before .if2 .left) (c .before .before .if3 .left))
 
 returns : tie.Need-returns Inv-loop μ-loop
 returns c = took-all (c .before .loop .inv) (c .loop-test .left)

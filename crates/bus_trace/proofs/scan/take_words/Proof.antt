@@ -16,6 +16,16 @@ Inv-loop samples line lsb last p₀ p = Going samples line lsb last p₀ p
 abbrev μ-loop : tie.MeasureT-loop
 μ-loop samples line lsb last p₀ p = length samples - p .at
 
+-- The place where a word's bits were taken, and the loop's head before it.
+abbrev Taken : Type 0
+Taken = tie.After-bits-at Inv-loop μ-loop
+
+abbrev at-loop : Taken → tie.At-loop Inv-loop μ-loop
+at-loop w = w .before .before .before .before .before .before .before
+
+room : (w : Taken) → at-loop w .loop .p .at + 8 ≤ length (at-loop w .before .before .args .samples .now)
+room w = omega (arith, w .before .before .before .before .before .if1 .taken, at-loop w .loop .inv .standing .within)
+
 loop-holds : tie.Need-loop-holds Inv-loop μ-loop
 loop-holds c = going-begun (c .before .pre .0)
 
@@ -31,8 +41,13 @@ highs-requires c κs = search needs
 take-before-high-requires : tie.Need-take-before-high-requires Inv-loop μ-loop
 take-before-high-requires c κs =
     let s = c .before .before .before .before .before .loop .inv .standing in
-    let some = c .if2 .taken in
-    (s, c .before .before .before .before .before .before .before .pre .1, omega (arith, c .before .before .before .if1 .taken, s .within), c .before .before .word-at .ensures, omega (arith, some, c .before .highs .ensures))
+    let some = c .if2 .taken in (
+      s,
+      c .before .before .before .before .before .before .before .pre .1,
+      omega (arith, c .before .before .before .if1 .taken, s .within),
+      c .before .before .word-at .ensures,
+      omega (arith, some, c .before .highs .ensures),
+    )
 
 returns : tie.Need-returns Inv-loop μ-loop
 returns c = took-join (c .before .before .before .before .before .before .loop .inv) (c .take-before-high .ensures)
@@ -42,11 +57,12 @@ rises-requires c κs = c .before .before .before .before .before .loop .inv .sta
 
 bits-at-requires : tie.Need-bits-at-requires Inv-loop μ-loop
 bits-at-requires c κs =
-    let s = c .before .before .before .before .before .before .loop .inv .standing in (
+    let p = c .before .before .before .before .before .before .loop in
+    let s = p .inv .standing in (
       s,
       record {
         room = omega (arith, c .before .before .before .before .if1 .taken, s .within);
-        mask = c .rises .ensures ∙ ap (λ (w : ℕ). risesIn (lowsIn 8 w) (c .before .before .before .before .before .before .loop .p .level) w) (c .before .before .before .word-at .ensures);
+        mask = c .rises .ensures ∙ ap (λ (w : ℕ). risesIn (lowsIn 8 w) (p .p .level) w) (c .before .before .before .word-at .ensures);
       },
       c .before .before .before .before .before .before .before .before .pre .1,
     )
@@ -56,33 +72,36 @@ lane-requires c κs = search needs
 
 add-t15 : tie.Need-add-t15 Inv-loop μ-loop
 add-t15 c =
-    let g = c .before .before .before .before .before .before .before .before .before .before .loop .inv in
-    let room : c .before .before .before .before .before .before .before .before .before .before .loop .p .at + 8 ≤ length (c .before .before .before .before .before .before .before .before .before .before .before .before .args .samples .now) = omega (arith, c .before .before .before .before .before .before .before .before .if1 .taken, g .standing .within) in
-    omega (arith, rise-inside (λ k. c .before .before .before .before .before .before .before .before .before .before .before .shared-slice-known .given k .fits) g room (c .before .before .before .bits-at .ensures) (c .before .if3 .taken) _ (c .lane .ensures), c .before .before .before .before .before .before .before .before .if1 .taken, g .standing .within)
+    let w = c .before .before .before in
+    let inside =
+    rise-inside (λ k. at-loop w .before .shared-slice-known .given k .fits) (at-loop w .loop .inv) (room w) (w .bits-at .ensures) (c .before .if3 .taken)
+    _ (c .lane .ensures) in
+    omega (arith, inside, room w, at-loop w .before .before .good)
 
 returns-2 : tie.Need-returns-2 Inv-loop μ-loop
 returns-2 c =
-    let g = c .before .before .before .before .before .before .before .before .before .before .loop .inv in
-    took-rise (λ k. c .before .before .before .before .before .before .before .before .before .before .before .shared-slice-known .given k .fits) g (omega (arith, c .before .before .before .before .before .before .before .before .if1 .taken, g .standing .within)) (c .before .before .before .bits-at .ensures)
-    (c .before .if3 .taken) _ (c .lane .ensures)
+    let w = c .before .before .before in
+    took-rise (λ k. at-loop w .before .shared-slice-known .given k .fits) (at-loop w .loop .inv) (room w) (w .bits-at .ensures) (c .before .if3 .taken)
+    _ (c .lane .ensures)
 
 add-p : tie.Need-add-p Inv-loop μ-loop
-add-p c = omega (arith, c .before .before .before .before .before .before .before .if1 .taken, c .before .before .before .before .before .before .before .before .before .loop .inv .standing .within)
+add-p c = omega (arith, room (c .before .before))
 
 shared-slice-read-p : tie.Need-shared-slice-read-p Inv-loop μ-loop
-shared-slice-read-p c = omega (arith, c .before .before .before .before .before .before .before .before .if1 .taken, c .before .before .before .before .before .before .before .before .before .before .loop .inv .standing .within)
+shared-slice-read-p c = omega (arith, room (c .before .before .before))
 
 add-p-2 : tie.Need-add-p-2 Inv-loop μ-loop
-add-p-2 c = omega (arith, c .before .before .before .before .before .before .before .before .if1 .taken, c .before .before .before .before .before .before .before .before .before .before .loop .inv .standing .within)
+add-p-2 c = omega (arith, room (c .before .before .before))
 
 loop-less : tie.Need-loop-less Inv-loop μ-loop
-loop-less c = omega (arith, c .before .before .before .before .before .before .before .before .if1 .taken, c .before .before .before .before .before .before .before .before .before .before .loop .inv .standing .within)
+loop-less c = omega (arith, room (c .before .before .before))
 
 loop-again : tie.Need-loop-again Inv-loop μ-loop
 loop-again c =
-    let g = c .before .before .before .before .before .before .before .before .before .before .loop .inv in
-    word-passed (λ k. c .before .before .before .before .before .before .before .before .before .before .before .shared-slice-known .given k .fits) g (omega (arith, c .before .before .before .before .before .before .before .before .if1 .taken, g .standing .within)) (c .before .before .before .bits-at .ensures)
-    (c .before .if3 .left) (sym (c .before .before .before .before .before .before .highs .ensures ∙ ap (highsIn 8) (c .before .before .before .before .before .before .before .word-at .ensures)) ∙ c .before .before .before .before .before .if2 .left)
+    let w = c .before .before .before in
+    let none-high = w .before .before .before .highs .ensures ∙ ap (highsIn 8) (w .before .before .before .before .word-at .ensures) in
+    word-passed (λ k. at-loop w .before .shared-slice-known .given k .fits) (at-loop w .loop .inv) (room w) (w .bits-at .ensures) (c .before .if3 .left)
+    (sym none-high ∙ w .before .before .if2 .left)
 
 take-each-requires : tie.Need-take-each-requires Inv-loop μ-loop
 take-each-requires c κs = (c .before .before .loop .inv .standing, c .before .before .before .before .pre .1)

@@ -1,4 +1,4 @@
--- `regmap::in_use::entry_at` meets its contract: a walk of its MIR, by hand. The struct is made in a local and goes, by copies, to each reader.
+-- `entry_at` meets its contract: a walk of its MIR, by hand. The struct is made in a local and goes, by copies, to each reader.
 -- In a local MIR erases the lifetime of the struct's type, so the value is shown to have the type at `erased`.
 use mathlib.Core.Path.{refl}
 use Prim.Native.Nat.{ℕ, _<_, _^_}

@@ -1,4 +1,4 @@
--- `regmap::in_use::part_at` meets its contract: 0 beyond the map, also where no slice has the byte, and a byte of the map inside it.
+-- `part_at` meets its contract: 0 beyond the map, also where no slice has the byte, and a byte of the map inside it.
 use mathlib.Core.Path.{refl, sym}
 use Prim.Native.Nat.{_+_}
 use native.Mathlib.Omega.{arith}

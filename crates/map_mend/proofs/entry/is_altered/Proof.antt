@@ -1,4 +1,4 @@
--- `entry::is_altered` meets its contract: the mended entry is compared with the old one, byte by byte.
+-- `is_altered` meets its contract: the mended entry is compared with the old one, byte by byte.
 use borrow.Author.Needs.{needs}
 use Rattle.map_mend.proofs.entry.is_altered.Statement.{statement}
 use Rattle.map_mend.proofs.entry.is_altered.Tie as tie

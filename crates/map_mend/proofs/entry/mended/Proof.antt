@@ -1,4 +1,4 @@
--- `entry::mended` meets its contract: the three steps are those of the definition, in their order.
+-- `mended` meets its contract: the three steps are those of the definition, in their order.
 use borrow.Author.Needs.{needs}
 use Rattle.map_mend.specs.Entry.{mendedAt}
 use Rattle.map_mend.proofs.entry.mended.Statement.{statement}

@@ -1,4 +1,4 @@
--- `entry::mended_kind` meets its contract: each arm is an arm of the definition.
+-- `mended_kind` meets its contract: each arm is an arm of the definition.
 use mathlib.Core.Path.{refl, sym, _∙_}
 use borrow.Author.Needs.{needs}
 use borrow.Author.Tests.{eq-eqb, ne-eqb, le-leb, lt-leb}

@@ -1,4 +1,4 @@
--- `entry::with_fixed_bytes` meets its contract: each arm is an arm of the definition.
+-- `with_fixed_bytes` meets its contract: each arm is an arm of the definition.
 use mathlib.Core.Path.{refl}
 use borrow.Author.Needs.{needs}
 use borrow.Author.Tests.{eq-eqb, ne-eqb}

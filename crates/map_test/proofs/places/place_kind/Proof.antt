@@ -1,4 +1,4 @@
--- `maptest::places::place_kind` meets its contract: the code's table is the definition's, and beyond it all is free.
+-- `place_kind` meets its contract: the code's table is the definition's, and beyond it all is free.
 use mathlib.Core.Path.{sym}
 use borrow.Author.Needs.{needs}
 use Rattle.map_test.specs.MapTest.{placeKinds}

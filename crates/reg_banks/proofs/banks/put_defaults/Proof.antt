@@ -1,4 +1,4 @@
--- `registers::banks::put_defaults` meets its contract: the loop stores each default, and the rest is the defaults from there on.
+-- `put_defaults` meets its contract: the loop stores each default, and the rest is the defaults from there on.
 use borrow.Author.Needs.{needs}
 use Prim.Native.Nat.{_-_}
 use lib.ListN.{length}

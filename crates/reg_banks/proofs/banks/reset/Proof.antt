@@ -1,4 +1,4 @@
--- `registers::banks::reset` meets its contract: the defaults, twice.
+-- `reset` meets its contract: the defaults, twice.
 use borrow.Author.Needs.{needs}
 use Rattle.reg_banks.specs.Banks.{defaultBanks}
 use Rattle.reg_banks.proofs.banks.reset.Statement.{statement}

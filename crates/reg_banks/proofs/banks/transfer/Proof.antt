@@ -1,4 +1,4 @@
--- `registers::banks::transfer` meets its contract: the loop gives each byte as the transfer makes it, and the rest is the transfer from there on.
+-- `transfer` meets its contract: the loop gives each byte as the transfer makes it, and the rest is the transfer from there on.
 use borrow.Author.Needs.{needs}
 use borrow.Author.Tests.{eq-eqb, ne-eqb}
 use Prim.Native.Nat.{ℕ, _-_}

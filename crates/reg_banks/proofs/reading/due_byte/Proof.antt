@@ -1,4 +1,4 @@
--- `registers::reading::due_byte` meets its contract: each return has gone by the tests of the definition, with the kind of the
+-- `due_byte` meets its contract: each return has gone by the tests of the definition, with the kind of the
 -- register at the address; one that is not blank is in the banks.
 use borrow.Author.Needs.{needs}
 use borrow.Author.Tests.{eq-eqb, ne-eqb}

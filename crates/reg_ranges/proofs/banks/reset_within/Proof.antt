@@ -1,4 +1,4 @@
--- `ranges::banks::reset_within` meets its contract: the defaults are put in one range, and then in the other.
+-- `reset_within` meets its contract: the defaults are put in one range, and then in the other.
 use borrow.Author.Needs.{needs}
 use native.Mathlib.Omega.{arith}
 use mathlib.Core.Path.{_≡_, sym, _∙_}

@@ -1,4 +1,4 @@
--- `ranges::banks::transfer_within` meets its contract: the loop gives each byte of the active range as a transfer makes it, and changes no other.
+-- `transfer_within` meets its contract: the loop gives each byte of the active range as a transfer makes it, and changes no other.
 use borrow.Author.Needs.{needs}
 use borrow.Author.Tests.{eq-eqb, ne-eqb}
 use native.Mathlib.Omega.{arith}

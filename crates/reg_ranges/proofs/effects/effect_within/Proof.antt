@@ -1,4 +1,4 @@
--- `ranges::effects::effect_within` meets its contract: the two ranges, lent to be read, are the chip's banks.
+-- `effect_within` meets its contract: the two ranges, lent to be read, are the chip's banks.
 use borrow.Author.Needs.{needs}
 use mathlib.Core.Path.{ap, _∙_}
 use Rattle.base_chip.specs.declared.Chip.the-variants.{Newer}

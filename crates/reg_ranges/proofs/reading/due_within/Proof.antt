@@ -1,4 +1,4 @@
--- `ranges::reading::due_within` meets its contract: the two ranges, lent to be read, are the chip's banks.
+-- `due_within` meets its contract: the two ranges, lent to be read, are the chip's banks.
 use borrow.Author.Needs.{needs}
 use mathlib.Core.Path.{ap, _∙_}
 use Rattle.base_chip.specs.declared.Chip.the-variants.{Newer}

@@ -1,4 +1,4 @@
--- `ranges::rise::end_within` meets its contract: a transfer, or nothing.
+-- `end_within` meets its contract: a transfer, or nothing.
 use borrow.Author.Needs.{needs}
 use mathlib.Core.Path.{refl, sym, ap, _∙_}
 use Rattle.base_bits.proofs.Cases.{yes, no}

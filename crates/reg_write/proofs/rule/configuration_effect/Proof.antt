@@ -1,4 +1,4 @@
--- `writing::rule::configuration_effect` meets its contract: each return has gone by the tests of the definition.
+-- `configuration_effect` meets its contract: each return has gone by the tests of the definition.
 use mathlib.Core.Path.{refl, sym, _∙_}
 use borrow.Author.Needs.{needs}
 use Rattle.base_bits.proofs.Cases.{yes, no}

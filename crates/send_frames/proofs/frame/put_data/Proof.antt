@@ -4,7 +4,7 @@ use Prim.Native.Nat.{_+_, _-_, _≤_, _<_}
 use native.Mathlib.Omega.{arith}
 use lib.ListN.{length, drop, drop-of-length-le}
 use borrow.Author.Needs.{needs}
-use Rattle.base_bits.proofs.Putting.{Putting, begun, next-byte, next-fits, further, ended}
+use Rattle.base_bits.proofs.Putting.{Putting, putting-begun, next-byte, next-fits, further, ended}
 use Rattle.send_frames.specs.Frames.{dataOf}
 use Rattle.send_frames.proofs.Data.{length-data}
 use Rattle.send_frames.proofs.frame.put_data.Statement.{statement}
@@ -26,7 +26,7 @@ fits : (c : tie.In-loop Inv-loop μ-loop) → c .before .loop .n + 1 ≤ length 
 fits c = next-fits (c .before .loop .inv .1) (next-byte _ _ (left c))
 
 loop-holds : tie.Need-loop-holds Inv-loop μ-loop
-loop-holds c = let s = c .before .before in (omega arith, begun _ _ _ (omega (arith, length-data (s .args .ascending) (s .args .bytes .now), s .pre)))
+loop-holds c = let s = c .before .before in (omega arith, putting-begun _ _ _ (omega (arith, length-data (s .args .ascending) (s .args .bytes .now), s .pre)))
 
 byte-at-requires : tie.Need-byte-at-requires Inv-loop μ-loop
 byte-at-requires c κs = search needs

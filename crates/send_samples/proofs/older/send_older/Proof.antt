@@ -21,13 +21,13 @@ number-of-requires : tie.Need-number-of-requires
 number-of-requires c κs = search needs
 
 -- what the number of 0 tells
-taken : (c : tie.Then1) → Admitted (Older Ad9557 (start c .args .top)) (asked (start c)) (length (start c .args .out .now))
-taken c = admitted (Older Ad9557 (start c .args .top)) (asked (start c)) _ (sym (c .before .number-of .ensures) ∙ c .if1 .taken)
+is-admitted : (c : tie.Then1) → Admitted (Older Ad9557 (start c .args .top)) (asked (start c)) (length (start c .args .out .now))
+is-admitted c = admitted (Older Ad9557 (start c .args .top)) (asked (start c)) _ (sym (c .before .number-of .ensures) ∙ c .if1 .taken)
 
 put-older-requires : tie.Need-put-older-requires
 put-older-requires c κs =
     let s = start (c .before) in
-    let t = taken (c .before) in
+    let t = is-admitted (c .before) in
     let near = older-start Ad9557 (s .args .top) (asked s) (t .count) (t .addresses) in (
       (t .settings, omega (arith, near, top-low Ad9557 (s .args .top) (t .top)), t .count .some),
       (t .count .data-length, omega (arith, length-counted (Older Ad9557 (s .args .top)) (asked s) (t .count), t .enough)),

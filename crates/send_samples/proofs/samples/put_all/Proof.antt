@@ -6,7 +6,7 @@ use native.Mathlib.Omega.{arith}
 use lib.ListN.{length}
 use borrow.Author.Needs.{needs}
 use Rattle.base_bits.specs.Buffer.{Put}
-use Rattle.base_bits.proofs.Putting.{Putting, Splits, begun, next-fits, further, ended}
+use Rattle.base_bits.proofs.Putting.{Putting, Splits, putting-begun, next-fits, further, ended}
 use Rattle.send_order.specs.Order.{sentOf}
 use Rattle.send_samples.specs.declared.RunSettings.{RunSettings}
 use Rattle.send_samples.specs.Run.{openingSamples, runSamples, closingSamples, wholeSamples}
@@ -32,7 +32,7 @@ start c = c .before .before .before
 whole : (c : tie.After-run-of)
     → let s = start c in
     Putting (s .args .out .now) 0 (all s (c .run-of .result)) (all s (c .run-of .result)) 0 (s .args .out .now)
-whole c = begun _ _ _ (omega (arith, start c .pre .1 .1 .0, ap (λ (r : RunSettings). length (all (start c) r)) (c .run-of .ensures)))
+whole c = putting-begun _ _ _ (omega (arith, start c .pre .1 .1 .0, ap (λ (r : RunSettings). length (all (start c) r)) (c .run-of .ensures)))
 
 -- the opening goes first, and then the bytes
 first : (c : tie.After-run-of)

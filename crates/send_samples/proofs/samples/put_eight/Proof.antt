@@ -16,8 +16,16 @@ put-nibble-requires c κs = search needs
 
 put-nibble-requires-2 : tie.Need-put-nibble-requires-2
 put-nibble-requires-2 c κs =
-    let p = c .before .before .before in
-    (omega arith, omega (arith, p .put-nibble .ensures .next-place, length-nibble (p .before .before .in-order .result / 16), p .put-nibble .kept .1 .0, p .before .before .before .before .pre))
+    let p = c .before .before .before in (
+      omega arith,
+      omega (
+        arith,
+        p .put-nibble .ensures .next-place,
+        length-nibble (p .before .before .in-order .result / 16),
+        p .put-nibble .kept .1 .0,
+        p .before .before .before .before .pre,
+      ),
+    )
 
 same-length : tie.Need-same-length
 same-length c = search needs
@@ -27,7 +35,8 @@ returns c =
     let p = c .before .before .before .before .before .before in
     let o = p .before .before in
     let a = o .before .before .args in
-    rw (two-nibbles (a .lsb-first) (a .x) (o .in-order .result) (o .in-order .ensures)) (put-both (p .put-nibble .ensures) (c .before .before .put-nibble2 .ensures))
+    rw (two-nibbles (a .lsb-first) (a .x) (o .in-order .result) (o .in-order .ensures))
+    (put-both (p .put-nibble .ensures) (c .before .before .put-nibble2 .ensures))
 
 pub put-eight-spec : {M : Type 1} → statement M
 put-eight-spec =

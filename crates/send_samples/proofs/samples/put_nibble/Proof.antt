@@ -5,7 +5,7 @@ use native.Mathlib.Omega.{arith}
 use lib.ListN.{drop}
 use lib.Bits.{and-le-r}
 use borrow.Author.Needs.{needs}
-use Rattle.base_bits.proofs.Putting.{Putting, begun, next-fits, further, ended}
+use Rattle.base_bits.proofs.Putting.{Putting, putting-begun, next-fits, further, ended}
 use Rattle.send_samples.proofs.Nibble.{nibbleSamples, length-nibble, next-sample, no-more-samples}
 use Rattle.send_samples.proofs.samples.put_nibble.Statement.{statement}
 use Rattle.send_samples.proofs.samples.put_nibble.Tie as tie
@@ -30,7 +30,7 @@ sub-samples : tie.Need-sub-samples Inv-loop μ-loop
 sub-samples c = omega (arith, and-le-r ((15 - c .args .x) * 0x0808040402020101 / 2 ^ 1) 0x0404040404040404)
 
 loop-holds : tie.Need-loop-holds Inv-loop μ-loop
-loop-holds c = (omega arith, begun _ _ _ (omega (arith, length-nibble (c .args .x))))
+loop-holds c = (omega arith, putting-begun _ _ _ (omega (arith, length-nibble (c .args .x))))
 
 mul-out : tie.Need-mul-out Inv-loop μ-loop
 mul-out c = search needs

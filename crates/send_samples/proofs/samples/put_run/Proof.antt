@@ -3,7 +3,7 @@ use Prim.Native.Nat.{_-_, _<_, _≤_}
 use native.Mathlib.Omega.{arith}
 use lib.ListN.{drop}
 use borrow.Author.Needs.{needs}
-use Rattle.base_bits.proofs.Putting.{Putting, begun, next-fits, further, ended}
+use Rattle.base_bits.proofs.Putting.{Putting, putting-begun, next-fits, further, ended}
 use Rattle.send_order.specs.Order.{sentOf}
 use Rattle.send_samples.specs.Run.{runSamples}
 use Rattle.bus_settings.proofs.Laws.{next-lt}
@@ -23,7 +23,7 @@ abbrev μ-loop : tie.MeasureT-loop
 loop-holds : tie.Need-loop-holds Inv-loop μ-loop
 loop-holds c =
     let pre = c .before .before .pre in
-    (omega arith, pre .0, begun _ _ _ (pre .1 .1 .0))
+    (omega arith, pre .0, putting-begun _ _ _ (pre .1 .1 .0))
 
 put-byte-requires : tie.Need-put-byte-requires Inv-loop μ-loop
 put-byte-requires c κs =
@@ -47,7 +47,8 @@ loop-again c =
     let b = c .before .before .before in
     let p = b .before .before .before in
     let s = p .before .before .before in
-    let turn = next-byte (s .args .run) (p .loop .address) (s .args .count) (p .loop .i) (s .args .«data» .now) (s .pre .1 .0) (b .before .before .loop-test .taken) in
+    let turn =
+    next-byte (s .args .run) (p .loop .address) (s .args .count) (p .loop .i) (s .args .«data» .now) (s .pre .1 .0) (b .before .before .loop-test .taken) in
     rw (c .next-address .ensures)
     (omega arith, next-lt (s .args .run .ascending) (p .loop .address), further (p .loop .inv .2) turn (b .put-byte .ensures))
 
@@ -58,7 +59,8 @@ returns : tie.Need-returns Inv-loop μ-loop
 returns c =
     let p = c .before in
     let s = p .before .before .before in
-    ended (p .loop .inv .2) (no-more-bytes (s .args .run) (p .loop .address) (s .args .count) (p .loop .i) (s .args .«data» .now) (s .pre .1 .0) (c .loop-test .left))
+    ended (p .loop .inv .2) (no-more-bytes (s .args .run) (p .loop .address) (s .args .count)
+    (p .loop .i) (s .args .«data» .now) (s .pre .1 .0) (c .loop-test .left))
 
 pub put-run-spec : {M : Type 1} → statement M
 put-run-spec =

@@ -18,8 +18,8 @@ use Rattle.send_samples.proofs.samples.put_samples.Tie as tie
 abbrev asked : tie.Start → Order
 asked c = withData (c .args .order) (c .args .«data» .now)
 
-taken : (c : tie.Start) → Admitted Newer (asked c) (length (c .args .out .now))
-taken c = admitted Newer (asked c) _ (c .pre .0)
+is-admitted : (c : tie.Start) → Admitted Newer (asked c) (length (c .args .out .now))
+is-admitted c = admitted Newer (asked c) _ (c .pre .0)
 
 -- the samples of its run
 same : (c : tie.Start)
@@ -28,12 +28,12 @@ same : (c : tie.Start)
 same c = order-samples Newer (asked c) _ _ refl refl
 
 cast-put-all : tie.Need-cast-put-all
-cast-put-all c = omega (arith, taken (c .before .before .before) .start)
+cast-put-all c = omega (arith, is-admitted (c .before .before .before) .start)
 
 put-all-requires : tie.Need-put-all-requires
 put-all-requires c κs =
     let s = c .before .before .before .before in
-    let t = taken s in
+    let t = is-admitted s in
     ((t .settings, omega (arith, t .start), omega (arith, t .start)), (t .count .data-length, (omega (arith, ap length (same s), t .enough), s .pre .1)))
 
 same-length : tie.Need-same-length

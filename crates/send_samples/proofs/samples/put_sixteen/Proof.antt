@@ -24,8 +24,15 @@ first-of-requires-2 c κs = search needs
 put-eight-requires-2 : tie.Need-put-eight-requires-2
 put-eight-requires-2 c κs =
     let p = c .before .before .before .before in
-    let s = p .before .before .before .before in
-    (omega (arith, after-bits (s .args .lsb-first) 8 (p .before .before .first-of .result) (p .put-eight .ensures), p .put-eight .kept .1 .1 .1 .0, s .pre .0), s .pre .1)
+    let s = p .before .before .before .before in (
+      omega (
+        arith,
+        after-bits (s .args .lsb-first) 8 (p .before .before .first-of .result) (p .put-eight .ensures),
+        p .put-eight .kept .1 .1 .1 .0,
+        s .pre .0,
+      ),
+      s .pre .1,
+    )
 
 same-length : tie.Need-same-length
 same-length c = search needs
@@ -35,7 +42,8 @@ returns c =
     let q = c .before .before .before .before in
     let p = q .before .before .before in
     let a = p .before .before .before .before .args in
-    rw (two-bytes (a .lsb-first) (a .x), ← p .before .before .first-of .ensures, ← q .first-of2 .ensures) (put-both (p .put-eight .ensures) (c .before .before .put-eight2 .ensures))
+    rw (two-bytes (a .lsb-first) (a .x), ← p .before .before .first-of .ensures, ← q .first-of2 .ensures)
+    (put-both (p .put-eight .ensures) (c .before .before .put-eight2 .ensures))
 
 pub put-sixteen-spec : {M : Type 1} → statement M
 put-sixteen-spec =

@@ -57,8 +57,8 @@ move-member-requires c κs = search needs
 
 next-turn-requires-2 : tie.Need-next-turn-requires-2
 next-turn-requires-2 c κs =
-    let start =
-    c .before .before .before .before .before .before .before .before .before .before .before .before .before .before .before .before .before .before .before .before in
+    let moved = c .before .before .before .before .before in
+    let start = moved .before .before .before .before .before .before .before .before .before .before .before .before .before .before .before in
     omega (arith, start .pre, start .good)
 
 same-length : tie.Need-same-length
@@ -69,9 +69,9 @@ same-length-2 c = search needs
 
 returns-2 : tie.Need-returns-2
 returns-2 c =
-    stepped-moved
-    (c .before .before .before .before .before .before .before .before .before .before .before .before .before .before .before .before .before .before .before .before .before .pre) _
-    (c .before .before .before .before .before .before .move-member .ensures) (c .next-turn2 .ensures)
+    let moved = c .before .before .before .before .before .before in
+    stepped-moved (moved .before .before .before .before .before .before .before .before .before .before .before .before .before .before .before .pre)
+    _ (moved .move-member .ensures) (c .next-turn2 .ensures)
 
 pub step-member-spec : {M : Type 1} → statement M
 step-member-spec =

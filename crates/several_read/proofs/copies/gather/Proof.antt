@@ -62,7 +62,7 @@ use Rattle.several_refusals.proofs.group.Group.with as with′
 use Rattle.several_refusals.proofs.group.Group.with.Symbol as with-def
 use Rattle.several_refusals.proofs.group.Group.with.Symbol.{name as #with}
 use Rattle.several_refusals.proofs.group.Group.with.Met as with-thm
-use Rattle.several_read.proofs.Gathering.{Reached, begun, turned, ended}
+use Rattle.several_read.proofs.Gathering.{Reached, gathering-begun, turned, ended}
 use Rattle.several_read.proofs.copies.gather.Key.{name as #gather}
 use Rattle.several_read.proofs.copies.gather as gather
 use Rattle.several_read.proofs.copies.gather.Statement as stated
@@ -290,7 +290,7 @@ module _ {M : Type 1} (𝓤 : URA M) (H : Heap 𝓤) (A : Atoms 𝓤) (W : Given
           (LL.copy T.the-type T′.the-copy 𝓤 H A W) ys b o (λ p.
           -- [the row; the open borrow; the fractured one; true; what the reference owns; true; _8 6; …; _0 22]
           keep ! (0 ∷ 6 ∷ 7 ∷ 8 ∷ 9 ∷ 10 ∷ 11 ∷ 12 ∷ 13 ∷ 14 ∷ 15 ∷ 16 ∷ 17 ∷ 18 ∷ 19 ∷ 20 ∷ 21 ∷ 22 ∷ 23 ∷ 1 ∷ 4 ∷ []) $
-          first ! $ blocks ! $ loops ! 𝓣 Nearer Nearer-wf (At p) (turns p) (0, g, subst (Reached ys 0) (sym eg) (begun ys), g-is))
+          first ! $ blocks ! $ loops ! 𝓣 Nearer Nearer-wf (At p) (turns p) (0, g, subst (Reached ys 0) (sym eg) (gathering-begun ys), g-is))
 
       -- the first two statements
       begins : Sq W (Locals (‵ (froom (tyInt w64) l₃ 0)) (‵ (froom G′.mir l₂ 0)) Entered) (runs C Λ En body.t-1 (atRet En Post))

@@ -19,7 +19,7 @@ use Rattle.several_chips.specs.Samples.{samplesIn}
 use Rattle.several_chips.specs.Numbers.{Range, inside, apart, rangesOf, apartFrom, rangesGood, chipsGood, allSound, rangesFit, severalSamplesGood, countFrom, severalRecordSize, severalNumber}
 use Rattle.several_chips.proofs.Memory.{SeparateFrom, AllRanged}
 
-pub record Accepted (m : List ℕ) (ws : List Member) (size : ℕ) (bytes : List ℕ) (room : ℕ) : Type 0 where
+pub record SeveralTests (m : List ℕ) (ws : List Member) (size : ℕ) (bytes : List ℕ) (room : ℕ) : Type 0 where
   pub one : 1 ≤ length ws
   pub eight : length ws ≤ 8
   pub ranged : AllRanged m size ws
@@ -164,9 +164,10 @@ passes false number next wrong e = absurd (wrong refl e)
 abbrev fits-room : List Member → List ℕ → ℕ → Bool
 fits-room ws bytes room = leb (severalRecordSize * countFrom 0 ws (samplesIn bytes)) room
 
-pub accepted : (m : List ℕ) (ws : List Member) (size : ℕ) (bytes : List ℕ) (room : ℕ) → severalNumber m ws size bytes room ≡ 0 → Accepted m ws size bytes room
+pub several-tests : (m : List ℕ) (ws : List Member) (size : ℕ) (bytes : List ℕ) (room : ℕ)
+    → severalNumber m ws size bytes room ≡ 0 → SeveralTests m ws size bytes room
 unfolding severalNumber
-accepted m ws size bytes room e =
+several-tests m ws size bytes room e =
     let six = unless (fits-room ws bytes room) 6 0 in
     let five = unless (severalSamplesGood (length ws) bytes) 5 six in
     let four = unless (rangesFit (countOf m) ws) 4 five in
