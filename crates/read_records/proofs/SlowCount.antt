@@ -5,8 +5,8 @@ use mathlib.Core.List.{List}
 use Prim.Native.Nat.{ℕ, zero, suc, _+_, _-_, _*_, _/_, _%_, _<_, _≤_}
 use native.Mathlib.Omega.{arith}
 use native.Mathlib.Nat.{zero-add}
-use lib.ListN.{length, take, drop, length-drop}
-use lib.Seq.{take-all, drop-drop}
+use lib.ListN.{length, drop}
+use lib.Seq.{drop-drop}
 use lib.Dec.{eqb}
 use mir.Val.{boolByte}
 use Rattle.base_bits.specs.Bits.{bitAt, bitOf}
@@ -41,10 +41,6 @@ slow-most (suc n) records =
     let rest = slow-most n (drop recordSize records) in
     each (λ (k : ℕ). k + slowIn n (drop recordSize records) ≤ suc n) (asksSlow records) (λ t. omega arith) (λ t. omega arith)
 
--- a slice from a place on is the rest of its list
-pub from-on : (l : List ℕ) (i : ℕ) → take (length l - i) (drop i l) ≡ drop i l
-from-on l i = take-all (length l - i) (drop i l) (omega (arith, length-drop i l))
-
 flag-number : (b : Bool) → boolByte b ≡ bitOf b
 flag-number true = refl
 flag-number false = refl
@@ -54,19 +50,19 @@ flag-most true = omega arith
 flag-most false = omega arith
 
 -- n of `all` records are looked at
-pub record Counting (records : List ℕ) (all slow n : ℕ) : Type 0 where
+pub record SlowCounting (records : List ℕ) (all slow n : ℕ) : Type 0 where
   pub within : n ≤ all
   pub few : slow ≤ n
   pub rest : slow + slowIn (all - n) (drop (n * recordSize) records) ≡ slowIn all records
 
-pub begun : (records : List ℕ) (all : ℕ) → Counting records all 0 0
-begun records all = record { within = omega arith; few = omega arith; rest = rw zero-add (ap (λ (k : ℕ). slowIn k records) e) }
+pub slow-counting-begun : (records : List ℕ) (all : ℕ) → SlowCounting records all 0 0
+slow-counting-begun records all = record { within = omega arith; few = omega arith; rest = rw zero-add (ap (λ (k : ℕ). slowIn k records) e) }
   where
     e : all - 0 ≡ all
     e = omega arith
 
-module _ {records : List ℕ} {all slow n : ℕ} (k : Counting records all slow n) where
-  pub turned : {asks : Bool} → n < all → asks ≡ asksSlow (drop (n * recordSize) records) → Counting records all (slow + boolByte asks) (n + 1)
+module _ {records : List ℕ} {all slow n : ℕ} (k : SlowCounting records all slow n) where
+  pub turned : {asks : Bool} → n < all → asks ≡ asksSlow (drop (n * recordSize) records) → SlowCounting records all (slow + boolByte asks) (n + 1)
   unfolding slowIn
   turned {asks} h e = record {
     within = omega arith;

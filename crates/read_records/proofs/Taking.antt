@@ -17,8 +17,8 @@ use Rattle.reg_banks.specs.Banks.{Banks}
 use Rattle.reg_banks.specs.Read.{dueByte}
 use Rattle.reg_write.specs.declared.Written.{Written}
 use Rattle.reg_write.specs.Write.{stagesAt, effectAt, touchesOn, Wrote}
-use Rattle.reg_write.specs.Rise.{armedOn, riseBanks}
-use Rattle.reg_write.proofs.Laws.{effect-within, armed-number, touches-number}
+use Rattle.reg_write.specs.Rise.{movesAtRise, armedOn, riseBanks}
+use Rattle.reg_write.proofs.Laws.{effect-within, armed-written, touches-number}
 use Rattle.read_records.specs.declared.EventOutcome.{EventOutcome}
 use Rattle.read_records.specs.Records.{recordOf, recordsIn, writeRecord, readRecord, abortRecord}
 use Rattle.read_records.specs.BanksAfter.{banksAfter, armedAfter, touchedAfter}
@@ -26,7 +26,8 @@ use Rattle.read_records.specs.Contracts.{touchedOn, EventBefore, EventAf
 use Rattle.read_records.proofs.Laws.{record-size}
 
 -- the record of an event that gives one has room
-pub room-for : {c : Chip} {m : List ℕ} {b : Banks} {ws : List ℕ} {t : Settings} {e : Event} {old : List ℕ} {at : ℕ} → EventBefore c m b ws t e old at → recordsIn e ≡ 1
+pub room-for : {c : Chip} {m : List ℕ} {b : Banks} {ws : List ℕ} {t : Settings} {e : Event} {old : List ℕ} {at : ℕ} → EventBefore c m b ws t e old at
+    → recordsIn e ≡ 1
     → at + recordSize ≤ length old
 room-for {c} {m} {b} {t = t} {e} k one = omega (arith, record-size c m b t e, k .room)
 
@@ -54,18 +55,19 @@ module _ {c : Chip} {m : List ℕ} {k : Bool} {b : Banks} {ws : List ℕ} {t : S
         next-place = refl;
       })
 
-  pub took-write : {read : Bool} {a v : ℕ} {w : Written} {after : Banks} {words new : List ℕ} {l : Bool} → read ≡ false
-      → Wrote c m b t a v w after → words ≡ touchedOn ws a (w .effect) → new ≡ sets old at (writeRecord a v w) → l ≡ armedOn c m k (w .effect)
+  pub took-write : {read : Bool} {a v : ℕ} {w : Written} {after : Banks} {words new : List ℕ} {moves l : Bool} → read ≡ false
+      → Wrote c m b t a v w after → words ≡ touchedOn ws a (w .effect) → new ≡ sets old at (writeRecord a v w) → moves ≡ movesAtRise c m → l ≡ armedOn moves k
+      (w .effect)
       → EventAfter c m k b ws t (Whole read a v) old at after words new (took (at + recordSize) l)
   unfolding banksAfter armedAfter touchedAfter recordOf
-  took-write {a = a} {v} er wrote ew en el =
+  took-write {a = a} {v} er wrote ew en em el =
       rw er
       (record {
         banks-after = wrote .banks-after;
         words-after =
             ew ∙ ap (λ (w : Written). touchedOn ws a (w .effect)) (wrote .answer-is)
             ∙ ap (λ (one : Bool). cond one (touchedWords ws a) ws) (touches-number c t a v (effectAt c m b a v));
-        armed-after = el ∙ ap (λ (w : Written). armedOn c m k (w .effect)) (wrote .answer-is) ∙ armed-number c m k t a v (effectAt c m b a v);
+        armed-after = el ∙ armed-written c m k t a v (effectAt c m b a v) em (wrote .answer-is);
         records-after = en ∙ ap (λ (w : Written). sets old at (writeRecord a v w)) (wrote .answer-is);
         next-place = refl;
       })

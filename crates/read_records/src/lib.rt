@@ -9,6 +9,7 @@ ghost use Rattle.bus_session.specs.declared.Event.the-variants.{Whole};
 ghost use Rattle.reg_banks.specs.Banks.{banks};
 ghost use Rattle.read_records.specs.Records.{recordsIn, recordBytes, writeRecord, readRecord, abortRecord};
 ghost use Rattle.reg_write.specs.Write.{touchesOn};
+ghost use Rattle.reg_write.specs.Rise.{movesAtRise};
 ghost use Rattle.read_records.specs.Contracts.{endOf, touchedOn, EventBefore, EventAfter};
 
 mod slow;
@@ -165,9 +166,11 @@ pub fn take_end(
     }
 }
 
-// Does what a whole byte does to the banks and to the words of touched registers, and puts its record at a place.
+// Does what a whole byte does to the banks and to the words of touched registers, and puts its record at a place. Whether the end of a
+// frame can move bytes is told, since it is the same for all bytes.
 pub fn take_byte(
     chip: Chip,
+    moves: bool,
     map: &[u8],
     active: &mut [u8],
     buffer: &mut [u8],
@@ -180,7 +183,8 @@ pub fn take_byte(
     records: &mut [u8],
     at: usize,
 ) -> EventOutcome
-    requires { ⌜ EventBefore chip (now map) (banks (now active) (now buffer)) (now words) settings (Whole read address byte) (now records) at ⌝ }
+    requires { ⌜ (EventBefore chip (now map) (banks (now active) (now buffer)) (now words) settings (Whole read address byte) (now records) at)
+        × (moves ≡ movesAtRise chip (now map)) ⌝ }
     ensures { λ r.
         ⌜ EventAfter chip (now (map .entry)) armed (banks (now (active .entry)) (now (buffer .entry))) (now (words .entry)) settings
         (Whole read address byte) (now (records .entry)) at (banks (now (active .exit)) (now (buffer .exit))) (now (words .exit))
@@ -197,7 +201,7 @@ pub fn take_byte(
     let written = reg_write::write(chip, map, active, buffer, settings, address, byte);
     touch_written(words, address, written.effect);
     put_write(records, at, address, byte, written);
-    let armed = armed_on(chip, map, armed, written.effect);
+    let armed = armed_on(moves, armed, written.effect);
     EventOutcome {
         at: at + RECORD,
         armed: armed,

@@ -75,7 +75,8 @@ any-bit c Data s x e r b = data-bit c s (dataLine c s x) (ltb (s .bits) 7) e ref
 
 -- CSB rises: a piece breaks off, nothing was taken, or a run stalls
 rise-few : (s : Port) (x : ℕ) (z o : Bool) (e : Event) → eqb (s .bits) 0 ≡ z → csbOf x ≡ true → recordsIn e ≤ 1
-    → 3 * recordsIn (cond (not (o && z)) (cond z Ended e) Nothing) + behind (cond (not (o && z)) (resting (sclkOf x) (s .settings)) (withLevels s x)) ≤ behindBy false (s .sclk) z + 1
+    → 3 * recordsIn (cond (not (o && z)) (cond z Ended e) Nothing) + behind
+    (cond (not (o && z)) (resting (sclkOf x) (s .settings)) (withLevels s x)) ≤ behindBy false (s .sclk) z + 1
 unfolding behind
 rise-few s x true true e h g r = rw (h, g) (omega arith)
 rise-few s x true false e h g r = omega arith
@@ -100,7 +101,8 @@ level-few false true k true = omega arith
 level-few false true k false = omega arith
 
 -- CSB falls: an instruction starts, or a run resumes
-fall-few : (s : Port) (x : ℕ) (o : Bool) → csbOf x ≡ false → 3 * 0 + behind (cond o (starting (sclkOf x) (s .settings)) (withLevels s x)) ≤ behindBy true (s .sclk) (eqb (s .bits) 0) + 1
+fall-few : (s : Port) (x : ℕ) (o : Bool) → csbOf x ≡ false → 3 * 0 + behind (cond o (starting (sclkOf x) (s .settings)) (withLevels s x)) ≤ behindBy true
+    (s .sclk) (eqb (s .bits) 0) + 1
 unfolding behind
 fall-few s x true g = omega (arith, low-few (sclkOf x) (eqb (s .bits) 0))
 fall-few s x false g = rw g (resumed (sclkOf x) (eqb (s .bits) 0))
@@ -121,7 +123,8 @@ three c s x = at (s .csb) (csbOf x) (s .sclk) (sclkOf x) refl refl refl refl
     at false false false false ec eb ek el = rw (ec, eb, ek, el) (level-few false (eqb (s .bits) 0) false false)
     at false false false true ec eb ek el =
         let t : Port = atLevels s false false in
-        rw (ec, eb, ek, el) (any-bit c (s .phase) t x (Whole (s .read) (s .address) (valueWith s (dataLine c s x))) (omega arith) (behind-le (withBit c (s .phase) t x)))
+        rw (ec, eb, ek, el) (any-bit c (s .phase) t x (Whole (s .read) (s .address) (valueWith s (dataLine c s x))) (omega arith)
+        (behind-le (withBit c (s .phase) t x)))
 
 count-behind : (c : Chip) (s : Port) (xs : List ℕ) → 3 * recordCount c s xs ≤ length xs + behind s
 unfolding recordCount

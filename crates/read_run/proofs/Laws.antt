@@ -53,8 +53,8 @@ next-run : (c : Chip) (m xs : List ℕ) (w : ReaderState) (i : ℕ) → i < leng
 unfolding runOf
 next-run c m xs w i h = rw (add-one, drop-cons xs i 0)
 
-pub begun : (c : Chip) (m xs : List ℕ) (w : ReaderState) (old : List ℕ) → RunBefore c true m w xs old → Reading c m xs w w old old 0 0
-begun c m xs w old r = record {
+pub reading-begun : (c : Chip) (m xs : List ℕ) (w : ReaderState) (old : List ℕ) → RunBefore c true m w xs old → Reading c m xs w w old old 0 0
+reading-begun c m xs w old r = record {
   within = omega arith;
   mapped = r .mapped refl;
   bits = r .bits refl;
@@ -70,7 +70,8 @@ module _ {c : Chip} {m xs : List ℕ} {w₀ w : ReaderState} {old new : List ℕ
   pub taking : EventBefore c m (w .banks) (w .touched) (w .session .port .settings) (eventAt c w (getD xs i 0)) new n
   taking = record { mapped = k .mapped; bits = k .bits; room = omega (arith, simp length-append at (ap length (next-records c m xs w i h)), k) }
 
-  pub turned : Reading c m xs w₀ (readerStateAfter c m w (getD xs i 0)) old (sets new n (recordAt c m w (getD xs i 0))) (n + length (recordAt c m w (getD xs i 0))) (i + 1)
+  pub turned : Reading c m xs w₀ (readerStateAfter c m w (getD xs i 0)) old (sets new n (recordAt c m w (getD xs i 0)))
+      (n + length (recordAt c m w (getD xs i 0))) (i + 1)
   turned = record {
     within = omega arith;
     mapped = mapped-after c m (w .session .armed) (w .banks) (eventAt c w (getD xs i 0)) (k .mapped);
@@ -82,7 +83,8 @@ module _ {c : Chip} {m xs : List ℕ} {w₀ w : ReaderState} {old new : List ℕ
     after = sym (next-run c m xs w i h) ∙ k .after;
   }
 
-pub ended : {c : Chip} {m xs : List ℕ} {w₀ w : ReaderState} {old new : List ℕ} {n i : ℕ} → length xs ≤ i → Reading c m xs w₀ w old new n i → RunDone c m w₀ xs old w n new
+pub ended : {c : Chip} {m xs : List ℕ} {w₀ w : ReaderState} {old new : List ℕ} {n i : ℕ} → length xs ≤ i → Reading c m xs w₀ w old new n i
+    → RunDone c m w₀ xs old w n new
 unfolding recordsOf runOf
 ended {c} {m} {xs} {w₀} {w} {old} {new} {n} {i} h k =
     let e : recordsOf c m w (drop i xs) ≡ [] = rw (drop-of-length-le xs h) in
@@ -127,7 +129,8 @@ taking-next {c} {m} {act = act} {buf} {ws} {new = new} {n} {e = e} k (one q h) =
 -- samples up to an event, by what the calls in a turn give
 pub again : {c : Chip} {m xs : List ℕ} {w₀ : ReaderState} {s t : Port} {armed : Bool} {act buf ws old new : List ℕ} {n i j : ℕ} {e : Event}
     → Reading c m xs w₀ (readerStateOf s armed act buf ws) old new n i → NextPath c xs s i e t j → (act′ buf′ ws′ new′ : List ℕ) (took : EventOutcome)
-    → EventAfter c m armed (banks act buf) ws (s .settings) e new n (banks act′ buf′) ws′ new′ took → Reading c m xs w₀ (readerStateOf t (took .armed) act′ buf′ ws′) old new′ (took .at) j
+    → EventAfter c m armed (banks act buf) ws (s .settings) e new n (banks act′ buf′) ws′ new′ took → Reading c m xs w₀
+    (readerStateOf t (took .armed) act′ buf′ ws′) old new′ (took .at) j
 unfolding banksAfter armedAfter touchedAfter recordOf
 again {c} {m} {t = t} {armed} {act} {buf} {ws} {new = new} {n} k (none q) act′ buf′ ws′ new′ took a =
     let ew : readerStateOf t (took .armed) act′ buf′ ws′ ≡ readerStateOf t armed act buf ws =

@@ -165,7 +165,8 @@ pub after-single : (c : Chip) (t : Port) (u : Settings) → isNewer c ≡ true �
 after-single Newer t u n low none o = rw (o, low, none) refl
 after-single (Older part top) t u n low none o = absurd (false≢true n)
 
-pub after-next : (c : Chip) (t : Port) (u : Settings) → isNewer c ≡ true → t .csb ≡ false → t .phase ≡ Data → t .left ≡ 0 → t .«in_use» .«single_instruction» ≡ false
+pub after-next : (c : Chip) (t : Port) (u : Settings) → isNewer c ≡ true → t .csb ≡ false → t .phase ≡ Data → t .left ≡ 0 → t .«in_use» .«single_instruction»
+    ≡ false
     → afterByte c t u ≡ going (settled t u) (nextAddress (t .«in_use» .ascending) (t .address)) (t .left)
 after-next Newer t u n low d none o = rw (o, low, d, none) refl
 after-next (Older part top) t u n low d none o = absurd (false≢true n)
@@ -199,7 +200,8 @@ settings-kept (Older part top) t false a v {n} h g =
 -- the line: only in data can the port be reading
 counted-line : (c : Chip) (r : Bool) (u : InUse) → _≡_ {A = ℕ} (cond ((r && u .«sdo_active») && isNewer c) 3 2) (cond (r && counting c u .«sdo_active») 3 2)
 counted-line Newer r u = ap (λ (b : Bool). cond {A = ℕ} b 3 2) (and-true (r && u .«sdo_active»))
-counted-line (Older part top) true u = each (λ (n : ℕ). n ≡ 2) (u .«sdo_active» && false) (λ e. absurd (false≢true (sym (and-false (u .«sdo_active»)) ∙ e))) (λ e. refl)
+counted-line (Older part top) true u = each (λ (n : ℕ). n ≡ 2) (u .«sdo_active» && false) (λ e. absurd (false≢true (sym (and-false (u .«sdo_active»)) ∙ e)))
+    (λ e. refl)
 counted-line (Older part top) false u = refl
 
 line-form : {c : Chip} {t : Port} → Form c t → cond ((t .read && t .«in_use» .«sdo_active») && isNewer c) 3 2 ≡ sourceLine c t

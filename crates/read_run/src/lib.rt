@@ -4,6 +4,7 @@ ghost use mathlib.Core.Path.{_≡_};
 ghost use mathlib.Core.Bool.{cond};
 ghost use Rattle.bus_session.specs.declared.Event.the-variants.{Whole};
 ghost use Rattle.reg_banks.specs.Banks.{banks};
+ghost use Rattle.reg_write.specs.Rise.{movesAtRise};
 ghost use Rattle.read_records.specs.Contracts.{endOf};
 ghost use Rattle.read_run.specs.Reading.{readerState};
 ghost use Rattle.read_run.specs.Phased.{phaseOfLast, phased};
@@ -13,6 +14,7 @@ use base_bits::bit_at;
 use base_bits::shift_in;
 use base_card::CARD;
 use base_chip::Chip;
+use base_chip::READBACK_CONTROL;
 use base_chip::is_newer;
 use base_sizes::RECORD;
 use bus_session::Phase;
@@ -30,6 +32,7 @@ use bus_trace::next_stop;
 use read_records::EventOutcome;
 use read_records::take_byte;
 use read_records::take_end;
+use reg_write::moves_at_rise;
 
 // Where a pass ended: the session, and how many bytes the records have.
 pub struct RunEnd {
@@ -40,6 +43,7 @@ pub struct RunEnd {
 // Takes a whole byte, or only counts its record where none is put.
 fn pass_byte(
     chip: Chip,
+    moves: bool,
     storing: bool,
     map: &[u8],
     active: &mut [u8],
@@ -53,7 +57,8 @@ fn pass_byte(
     records: &mut [u8],
     at: usize,
 ) -> EventOutcome
-    requires { ⌜ PassBefore chip storing (now map) (banks (now active) (now buffer)) (now words) settings (Whole read address byte) (now records) at ⌝ }
+    requires { ⌜ (PassBefore chip storing (now map) (banks (now active) (now buffer)) (now words) settings (Whole read address byte) (now records) at)
+        × (moves ≡ movesAtRise chip (now map)) ⌝ }
     ensures { λ r.
         ⌜ PassAfter chip storing (now (map .entry)) armed (banks (now (active .entry)) (now (buffer .entry))) (now (words .entry)) settings
         (Whole read address byte) (now (records .entry)) at (banks (now (active .exit)) (now (buffer .exit))) (now (words .exit))
@@ -62,6 +67,7 @@ fn pass_byte(
     if storing {
         return take_byte(
             chip,
+            moves,
             map,
             active,
             buffer,
@@ -213,6 +219,7 @@ pub fn run_samples(
     let phase = s.phase;
     let mut last = last_of(phase);
     let newer = is_newer(chip);
+    let moves = moves_at_rise(chip, map);
     let mut line = line_at(s.read & s.in_use.sdo_active & newer);
     let mut at: usize = 0;
     let mut i: usize = 0;
@@ -302,6 +309,7 @@ pub fn run_samples(
             let settings = s.settings;
             let took = pass_byte(
                 chip,
+                moves,
                 storing,
                 map,
                 active,
@@ -320,8 +328,8 @@ pub fn run_samples(
             s.sclk = true;
             s.bits = 0;
             s.value = 0;
-            // No chip has a setting above 0x0004.
-            if !s.read & (s.address <= 0x0004) {
+            // No chip has a setting above this register.
+            if !s.read & (s.address <= READBACK_CONTROL) {
                 let before = s.settings;
                 let settings = before.after(chip, s.address, byte);
                 s.settings = settings;

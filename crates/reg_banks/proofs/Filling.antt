@@ -18,8 +18,8 @@ pub record Filling (rest : ℕ → List ℕ → List ℕ) (old new : List ℕ) (
   pub same : length new ≡ length old
   pub whole : take i new ++ rest i (drop i new) ≡ rest 0 old
 
-pub begun : (rest : ℕ → List ℕ → List ℕ) (l : List ℕ) → Filling rest l l 0
-begun rest l = record { within = omega arith; same = refl; whole = refl }
+pub filling-begun : (rest : ℕ → List ℕ → List ℕ) (l : List ℕ) → Filling rest l l 0
+filling-begun rest l = record { within = omega arith; same = refl; whole = refl }
 
 module _ {f : ℕ → ℕ → ℕ} {rest : ℕ → List ℕ → List ℕ} (r : Rule f rest) where
   pub length-rest : (a : ℕ) (l : List ℕ) → length (rest a l) ≡ length l

@@ -10,7 +10,7 @@ use lib.ListN.{length, getD, set, length-set}
 use lib.Seq.{sets}
 use Rattle.map_format.specs.Format.{registerAt, buffered}
 use Rattle.reg_banks.specs.Banks.{banks, transferred}
-use Rattle.reg_banks.proofs.Filling.{Filling, begun, stored, kept, ended}
+use Rattle.reg_banks.proofs.Filling.{Filling, filling-begun, stored, kept, ended}
 use Rattle.reg_banks.proofs.Laws.{transferOver, transfer-rule}
 use Rattle.reg_ranges.specs.Ranges.{part, banksIn, placed, RangesWithin}
 use Rattle.reg_ranges.proofs.Laws.{set-inside, getD-outside, sets-self, length-part, getD-part, part-set, placed-active}
@@ -25,7 +25,7 @@ module _ {m mem : List ℕ} {n a b : ℕ} (w : RangesWithin m mem n a b) where
   moving-begun = record {
     same = refl;
     outside = sym (sets-self n mem a (w .active-fits));
-    inside = begun (transferOver m (part mem n b)) (part mem n a);
+    inside = filling-begun (transferOver m (part mem n b)) (part mem n a);
   }
 
   module _ {new : List ℕ} {i : ℕ} (k : Moving m mem n a b new i) where

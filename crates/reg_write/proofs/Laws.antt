@@ -24,6 +24,7 @@ use Rattle.reg_banks.proofs.Laws.{mapped-defaults, mapped-transfer, in-banks}
 use Rattle.reg_write.specs.declared.Stages.{Stages}
 use Rattle.reg_write.specs.declared.Effect.{Effect}
 use Rattle.reg_write.specs.declared.Effect.the-variants.{Nothing, Byte, Control, Transfer, Reset, Ignored}
+use Rattle.reg_write.specs.declared.Written.{Written}
 use Rattle.reg_write.specs.Effect.{controlEffect, movedBits, effectOf, byteEffect}
 use Rattle.reg_write.specs.Write.{stagesAt, effectAt, withByte, applied, onByte, ByteBelow, touchesOn, writeBanks, written, writtenBy, writtenOf}
 use Rattle.reg_write.specs.Rise.{movesAtRise, armedBy, armedOn, riseBanks}
@@ -133,7 +134,7 @@ module _ {m : List ℕ} {b : Banks} (h : Mapped m b) where
 
 -- the number of an effect arms a session just as the effect does
 pub armed-number : (c : Chip) (m : List ℕ) (armed : Bool) (t : Settings) (a v : ℕ) (e : Effect)
-    → armedOn c m armed (writtenBy c t a v e .effect) ≡ armedBy c m armed e
+    → armedOn (movesAtRise c m) armed (writtenBy c t a v e .effect) ≡ armedBy c m armed e
 unfolding armedOn armedBy writtenBy
 armed-number c m armed t a v Nothing = refl
 armed-number c m armed t a v (Byte false at byte moved) = refl
@@ -142,6 +143,10 @@ armed-number c m armed t a v Control = refl
 armed-number c m armed t a v Transfer = refl
 armed-number c m armed t a v Reset = refl
 armed-number c m armed t a v Ignored = refl
+
+pub armed-written : (c : Chip) (m : List ℕ) (armed : Bool) (t : Settings) (a v : ℕ) (e : Effect) {moves : Bool} {w : Written}
+    → moves ≡ movesAtRise c m → w ≡ writtenBy c t a v e → armedOn moves armed (w .effect) ≡ armedBy c m armed e
+armed-written c m armed t a v e em ew = rw (em, ew) (armed-number c m armed t a v e)
 
 -- and it touches a register just as the effect does
 pub touches-number : (c : Chip) (t : Settings) (a v : ℕ) (e : Effect) → touchesOn (writtenBy c t a v e .effect) ≡ onByte e

@@ -29,6 +29,6 @@ armedBy c m armed Ignored = armed
 unfoldable pub riseBanks : Chip → List ℕ → Bool → Banks → Banks
 riseBanks c m armed b = cond (armed && movesAtRise c m) (transferred m b) b
 
--- what the code's test of an effect's number gives
-unfoldable pub armedOn : Chip → List ℕ → Bool → ℕ → Bool
-armedOn c m armed effect = cond (eqb effect 5) false (cond (eqb effect 2) (armed || movesAtRise c m) armed)
+-- what the code's test of an effect's number gives, by whether the end of a frame can move bytes
+unfoldable pub armedOn : Bool → Bool → ℕ → Bool
+armedOn moves armed effect = cond (eqb effect 5) false (cond (eqb effect 2) (armed || moves) armed)

@@ -17,14 +17,14 @@ pub fn moves_at_rise(chip: Chip, map: &[u8]) -> bool
     is_newer(chip) & bit_at(flags(map), 0)
 }
 
-// Whether the session is armed after a write with the effect of this number. The map is asked whatever the effect, without a branch.
-pub fn armed_on(chip: Chip, map: &[u8], armed: bool, effect: u8) -> bool
-    ensures { λ r. ⌜ r ≡ armedOn chip (now (map .entry)) armed effect ⌝ }
+// Whether the session is armed after a write with the effect of this number, by whether the end of a frame can move bytes.
+pub fn armed_on(moves: bool, armed: bool, effect: u8) -> bool
+    ensures { λ r. ⌜ r ≡ armedOn moves armed effect ⌝ }
 {
     if effect == EFFECT_RESET {
         return false;
     }
-    armed | ((effect == EFFECT_BUFFER) & moves_at_rise(chip, map))
+    armed | ((effect == EFFECT_BUFFER) & moves)
 }
 
 // The end of a frame: of an armed session, the byte of each buffered register moves to the active stage.

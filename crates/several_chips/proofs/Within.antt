@@ -15,8 +15,8 @@ use Rattle.reg_banks.specs.Banks.{Banks}
 use Rattle.reg_banks.specs.Read.{dueByte}
 use Rattle.reg_write.specs.declared.Written.{Written}
 use Rattle.reg_write.specs.Write.{effectAt}
-use Rattle.reg_write.specs.Rise.{armedOn, riseBanks}
-use Rattle.reg_write.proofs.Laws.{armed-number}
+use Rattle.reg_write.specs.Rise.{movesAtRise, armedOn, riseBanks}
+use Rattle.reg_write.proofs.Laws.{armed-written}
 use Rattle.reg_ranges.specs.Ranges.{banksIn, placed, WroteWithin}
 use Rattle.reg_ranges.proofs.Laws.{placed-same}
 use Rattle.read_records.specs.declared.EventOutcome.{EventOutcome}
@@ -87,17 +87,16 @@ module _ {m mem : List ℕ} {n a b : ℕ} {t : Settings} {k : Bool} {e : Event} 
       })
 
   -- a byte was written
-  pub took-write : {read : Bool} {address v : ℕ} {w : Written} {memory new : List ℕ} {armed : Bool} → e ≡ Whole read address v → read ≡ false
-      → WroteWithin m mem n a b t address v w memory → new ≡ sets old at (numbered i false (writeRecord address v w)) → armed ≡ armedOn Newer m k (w .effect)
+  pub took-write : {read : Bool} {address v : ℕ} {w : Written} {memory new : List ℕ} {moves armed : Bool} → e ≡ Whole read address v → read ≡ false
+      → WroteWithin m mem n a b t address v w memory → new ≡ sets old at (numbered i false (writeRecord address v w)) → moves ≡ movesAtRise Newer m
+      → armed ≡ armedOn moves k (w .effect)
       → TakenWithin m mem n a b t k e i contended old at memory new (took (at + severalRecordSize) armed)
   unfolding banksAfter armedAfter recordOf joinedRecords
-  took-write {address = address} {v} ee er wrote en el =
+  took-write {address = address} {v} ee er wrote en em el =
       rw (ee, er)
       (record {
         memory-after = wrote .memory-after;
-        armed-after =
-            el ∙ ap (λ (w : Written). armedOn Newer m k (w .effect)) (wrote .answer-is)
-            ∙ armed-number Newer m k t address v (effectAt Newer m (banksIn mem n a b) address v);
+        armed-after = el ∙ armed-written Newer m k t address v (effectAt Newer m (banksIn mem n a b) address v) em (wrote .answer-is);
         records-after = en ∙ ap (λ (w : Written). sets old at (numbered i false (writeRecord address v w))) (wrote .answer-is);
         next-place = refl;
       })

@@ -17,6 +17,7 @@ use reg_ranges::due_within;
 use reg_ranges::end_within;
 use reg_ranges::write_within;
 use reg_write::armed_on;
+use reg_write::moves_at_rise;
 
 // The end of a frame: what the rise moves, and a session that is not armed. The next place is the given one.
 fn take_end_within(
@@ -81,7 +82,8 @@ pub(crate) fn take_within(
             }
             let written = write_within(map, memory, n, active, buffer, settings, address, byte);
             put_write(records, at, chip, address, byte, written);
-            let armed = armed_on(Chip::Newer, map, armed, written.effect);
+            let moves = moves_at_rise(Chip::Newer, map);
+            let armed = armed_on(moves, armed, written.effect);
             EventOutcome {
                 at: at + RECORD,
                 armed: armed,

@@ -5,8 +5,8 @@ use Prim.Native.Nat.{ℕ, zero, suc, _+_, _-_, _*_, _/_, _%_, _^_, _<_, _≤_, m
 use native.Mathlib.Omega.{arith}
 use native.Mathlib.Numerals.{unary-clauses, sub-one}
 use native.Mathlib.Nat.{pow-suc, one-le-pow, pow-le-pow-right, lt-of-not-le}
-use lib.ListN.{length, take, drop, set, length-append, length-drop}
-use lib.Seq.{sets, length-sets, length-take-le, take-all, drop-drop}
+use lib.ListN.{length, drop, set, length-append}
+use lib.Seq.{sets, length-sets, length-take-le, drop-drop}
 use lib.Dec.{eqb}
 use borrow.Author.Tests.{eq-eqb, ne-eqb, lt-ltb}
 use Rattle.io.specs.Digits.{digits, glyph, Fewest}
@@ -71,10 +71,6 @@ placed-printed {line} {old} {new} {n} h p = record {
   where
     fits : n ≤ length new
     fits = omega (arith, h, ap length (p .buffer) ∙ length-sets old 0 line)
-
--- a slice from a place on is the rest of its list
-pub from-on : (l : List ℕ) (i : ℕ) → take (length l - i) (drop i l) ≡ drop i l
-from-on l i = take-all (length l - i) (drop i l) (omega (arith, length-drop i l))
 
 lines-length : (n : ℕ) (records : List ℕ) → length (linesOf n records) ≡ n * lineSize
 unfolding linesOf

@@ -10,10 +10,10 @@ due-byte-requires : tie.Need-due-byte-requires
 due-byte-requires c κs = search needs
 
 put-read-requires : tie.Need-put-read-requires
-put-read-requires c κs = room-for (c .before .before .before .before .before .before .before .before .before .before .pre) refl
+put-read-requires c κs = room-for (c .before .before .before .before .before .before .before .before .before .before .pre .0) refl
 
-add-t24 : tie.Need-add-t24
-add-t24 c = search needs
+add-t25 : tie.Need-add-t25
+add-t25 c = search needs
 
 same-length : tie.Need-same-length
 same-length c = search needs
@@ -25,22 +25,33 @@ same-length-3 : tie.Need-same-length-3
 same-length-3 c = search needs
 
 returns : tie.Need-returns
-returns c = took-read (c .before .before .before .before .before .before .before .if1 .taken) (c .before .before .before .before .due-byte .ensures) (c .before .before .put-read .ensures)
+returns c =
+    took-read (c .before .before .before .before .before .before .before .if1 .taken) (c .before .before .before .before .due-byte .ensures)
+    (c .before .before .put-read .ensures)
 
 write-requires : tie.Need-write-requires
 write-requires c κs = search needs
 
 touch-written-requires : tie.Need-touch-written-requires
-touch-written-requires c κs = has-bit (c .before .before .before .before .before .before .before .before .before .before .before .before .before .before .pre) (c .before .before .before .before .before .write .ensures)
+touch-written-requires c κs =
+    has-bit (c .before .before .before .before .before .before .before .before .before .before .before .before .before .before .pre .0)
+    (c .before .before .before .before .before .write .ensures)
 
 put-write-requires : tie.Need-put-write-requires
-put-write-requires c κs = room-for (c .before .before .before .before .before .before .before .before .before .before .before .before .before .before .before .before .before .before .pre) refl
+put-write-requires c κs =
+    room-for (c .before .before .before .before .before .before .before .before .before .before .before .before .before .before .before .before .before .before .pre .0) refl
 
 armed-on-requires : tie.Need-armed-on-requires
 armed-on-requires c κs = search needs
 
-add-t34 : tie.Need-add-t34
-add-t34 c = omega (arith, room-for (c .before .before .before .before .before .before .before .before .before .before .before .before .before .before .before .before .before .before .before .before .before .before .pre) refl, c .before .before .before .before .before .before .before .before .before .before .before .before .before .before .before .before .before .before .before .before .before .before .good)
+add-t35 : tie.Need-add-t35
+add-t35 c =
+    omega (
+      arith,
+      room-for
+          (c .before .before .before .before .before .before .before .before .before .before .before .before .before .before .before .before .before .before .before .before .before .before .pre .0) refl,
+      c .before .before .before .before .before .before .before .before .before .before .before .before .before .before .before .before .before .before .before .before .before .before .good,
+    )
 
 same-length-4 : tie.Need-same-length-4
 same-length-4 c = search needs
@@ -57,7 +68,9 @@ same-length-7 c = search needs
 returns-2 : tie.Need-returns-2
 returns-2 c =
     let w = c .before .before .before .before .before .before .before .before .before .before .before .before .before in
-    took-write (c .before .before .before .before .before .before .before .before .before .before .before .before .before .before .before .before .if1 .left) (w .write .ensures) (c .before .before .before .before .before .before .before .touch-written .ensures) (c .before .before .before .put-write .ensures) (c .armed-on .ensures)
+    took-write (c .before .before .before .before .before .before .before .before .before .before .before .before .before .before .before .before .if1 .left)
+    (w .write .ensures) (c .before .before .before .before .before .before .before .touch-written .ensures) (c .before .before .before .put-write .ensures)
+    (c .before .before .before .before .before .before .before .before .before .before .before .before .before .before .before .before .before .before .before .before .before .before .pre .1) (c .armed-on .ensures)
 
 pub take-byte-spec : {M : Type 1} → statement M
 take-byte-spec =
@@ -65,7 +78,7 @@ take-byte-spec =
     (tie.spec
     due-byte-requires
     put-read-requires
-    add-t24
+    add-t25
     same-length
     same-length-2
     same-length-3
@@ -74,7 +87,7 @@ take-byte-spec =
     touch-written-requires
     put-write-requires
     armed-on-requires
-    add-t34
+    add-t35
     same-length-4
     same-length-5
     same-length-6

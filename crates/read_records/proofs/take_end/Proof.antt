@@ -21,7 +21,9 @@ returns : tie.Need-returns
 returns c = took-end (sym (yes _ (eq-eqb _ _ (c .if1 .taken)) refl)) (c .before .before .before .end-frame .ensures)
 
 put-abort-requires : tie.Need-put-abort-requires
-put-abort-requires c κs = room-for (c .before .before .before .before .before .before .before .before .before .before .before .before .pre) (ap recordsIn (sym (no _ (ne-eqb _ _ (c .before .if1 .left)) refl)))
+put-abort-requires c κs =
+    room-for (c .before .before .before .before .before .before .before .before .before .before .before .before .pre)
+    (ap recordsIn (sym (no _ (ne-eqb _ _ (c .before .if1 .left)) refl)))
 
 add-t21 : tie.Need-add-t21
 add-t21 c = search needs
@@ -36,7 +38,9 @@ same-length-5 : tie.Need-same-length-5
 same-length-5 c = search needs
 
 returns-2 : tie.Need-returns-2
-returns-2 c = took-abort (sym (no _ (ne-eqb _ _ (c .before .before .before .before .if1 .left)) refl)) (c .before .before .before .before .before .before .before .end-frame .ensures) (c .before .before .put-abort .ensures)
+returns-2 c =
+    took-abort (sym (no _ (ne-eqb _ _ (c .before .before .before .before .if1 .left)) refl))
+    (c .before .before .before .before .before .before .before .end-frame .ensures) (c .before .before .put-abort .ensures)
 
 pub take-end-spec : {M : Type 1} → statement M
 take-end-spec =

@@ -7,7 +7,9 @@ use Rattle.read_run.proofs.pass_byte.Statement.{statement}
 use Rattle.read_run.proofs.pass_byte.Tie as tie
 
 take-byte-requires : tie.Need-take-byte-requires
-take-byte-requires c κs = c .before .before .before .before .before .before .before .before .before .before .pre .taking (c .before .before .before .before .if1 .taken)
+take-byte-requires c κs =
+    let pre = c .before .before .before .before .before .before .before .before .before .before .pre in
+    (pre .0 .taking (c .before .before .before .before .if1 .taken), pre .1)
 
 same-length : tie.Need-same-length
 same-length c = search needs
@@ -26,8 +28,8 @@ returns c =
     let t = c .before .before .before .before .before .before .before .before .take-byte .ensures in
     record { next-place = place-after t; taken = λ p. t }
 
-add-t23 : tie.Need-add-t23
-add-t23 c = search needs
+add-t24 : tie.Need-add-t24
+add-t24 c = search needs
 
 returns-2 : tie.Need-returns-2
 returns-2 c = record { next-place = refl; taken = λ p. absurd (false≢true (sym (c .if1 .left) ∙ p)) }
@@ -42,5 +44,5 @@ pass-byte-spec =
     same-length-3
     same-length-4
     returns
-    add-t23
+    add-t24
     returns-2)

@@ -2,19 +2,16 @@
 -- sample there has a law of its own.
 mod Turn
 use Prim.Native.Nat.{_-_}
-use mathlib.Core.Path.{refl, sym, _∙_, subst}
+use mathlib.Core.Path.{refl, sym, _∙_}
 use native.Mathlib.Omega.{arith}
 use borrow.Author.Needs.{needs}
 use borrow.Author.Tests.{not-true}
 use Rattle.base_card.proofs.Entries.{is-card}
-use Rattle.bus_session.specs.declared.Port.{Port}
 use Rattle.bus_trace.proofs.Progress.{line-lt, room-for-bit}
-use Rattle.read_run.specs.Reading.{readerState, readerStateOf}
 use Rattle.read_run.specs.Phased.{phased}
-use Rattle.read_run.proofs.Running.{Running, running-begun, passing, running-ended}
-use Rattle.read_run.proofs.Steps.{sized-by, phased-by}
+use Rattle.read_run.proofs.Running.{passing, running-ended}
 use Rattle.read_run.proofs.Loop.{line-now, line-kept, start-stands, byte-small, stop-ended, stop-goes-on, stop-starts, stop-stalls, stop-ends, stop-enters-newer, stop-enters-older, stop-whole, stop-single, stop-next, stop-run, stop-passes}
-use Rattle.read_run.proofs.run_samples.Proof.Turn.{Inv-loop, μ-loop, stopped, turn-less, instruction-is, byte-is, byte-on, settled-is, near, rested}
+use Rattle.read_run.proofs.run_samples.Proof.Turn.{Inv-loop, μ-loop, loop-holds, stopped, turn-less, instruction-is, byte-is, byte-on, settled-is, near, rested}
 use Rattle.read_run.proofs.run_samples.Statement.{statement}
 use Rattle.read_run.proofs.run_samples.Tie as tie
 
@@ -24,17 +21,11 @@ last-of-requires c κs = search needs
 is-newer-requires : tie.Need-is-newer-requires Inv-loop μ-loop
 is-newer-requires c κs = search needs
 
+moves-at-rise-requires : tie.Need-moves-at-rise-requires Inv-loop μ-loop
+moves-at-rise-requires c κs = search needs
+
 line-at-requires : tie.Need-line-at-requires Inv-loop μ-loop
 line-at-requires c κs = search needs
-
-loop-holds : tie.Need-loop-holds Inv-loop μ-loop
-loop-holds c =
-    let a = c .before .before .before .before .before .before .before .before .before .before .before .args in
-    let e = c .before .before .before .last-of .ensures in
-    let begun =
-    subst (λ (t : Port). Running (a .chip) (a .storing) (a .map .now) (a .samples .now) (readerState (a .session) (a .active .now) (a .buffer .now) (a .words .now)) (readerStateOf t (a .session .armed) (a .active .now) (a .buffer .now) (a .words .now)) (a .records .now) (a .records .now) 0 0)
-    (sym (phased-by (a .session .port) e)) (running-begun (c .before .before .before .before .before .before .before .before .before .before .before .pre)) in
-    ((refl, refl, refl, refl), sized-by (a .session .port .phase) e, begun, line-now begun _ _ (c .before .before .is-newer .ensures) (c .line-at .ensures))
 
 level-of-requires : tie.Need-level-of-requires Inv-loop μ-loop
 level-of-requires c κs = search needs
@@ -43,12 +34,21 @@ next-stop-requires : tie.Need-next-stop-requires Inv-loop μ-loop
 next-stop-requires c κs =
     let t = c .before .before .before .loop in (
       start-stands (t .s) (t .last) (t .inv .2) (t .inv .1) (c .before .before .loop-test .taken) (c .before .level-of .result) (c .before .level-of .ensures),
-      rw (t .inv .3) (line-lt (c .before .before .before .before .before .before .before .before .before .before .before .before .before .before .before .args .chip) (phased (t .s) (t .last))),
+      rw (t .inv .3) (line-lt
+          (c .before .before .before .before .before .before .before .before .before .before .before .before .before .before .before .before .args .chip)
+          (phased (t .s) (t .last))),
       is-card,
     )
 
 loop-less : tie.Need-loop-less Inv-loop μ-loop
-loop-less c = omega (arith, c .before .before .next-stop .ensures .ahead, c .before .before .next-stop .ensures .within, c .before .before .before .before .before .loop-test .taken, c .if1 .taken)
+loop-less c =
+    omega (
+      arith,
+      c .before .before .next-stop .ensures .ahead,
+      c .before .before .next-stop .ensures .within,
+      c .before .before .before .before .before .loop-test .taken,
+      c .if1 .taken,
+    )
 
 loop-again : tie.Need-loop-again Inv-loop μ-loop
 loop-again c =
@@ -60,7 +60,13 @@ shared-slice-read-x : tie.Need-shared-slice-read-x Inv-loop μ-loop
 shared-slice-read-x c = c .before .if1 .left
 
 add-i : tie.Need-add-i Inv-loop μ-loop
-add-i c = omega (arith, c .before .before .before .next-stop .ensures .within, c .before .if1 .left, c .before .before .before .before .before .before .before .before .before .before .before .before .before .before .before .before .before .before .before .pre .few)
+add-i c =
+    omega (
+      arith,
+      c .before .before .before .next-stop .ensures .within,
+      c .before .if1 .left,
+      c .before .before .before .before .before .before .before .before .before .before .before .before .before .before .before .before .before .before .before .before .pre .few,
+    )
 
 bit-at-requires : tie.Need-bit-at-requires Inv-loop μ-loop
 bit-at-requires c κs = omega arith
@@ -71,8 +77,13 @@ loop-less-2 c = turn-less (c .before .before .before .before .before)
 loop-again-2 : tie.Need-loop-again-2 Inv-loop μ-loop
 loop-again-2 c =
     let k = c .before .before .before .before .before .before .before in
-    let t = k .before .before .before .before .loop in
-    (t .inv .0, t .inv .1, stop-goes-on (stopped k) (c .before .before .before .before .before .if1 .left) (c .before .before .before .if2 .taken) _ (c .before .before .bit-at .ensures) (c .if3 .taken), t .inv .3)
+    let t = k .before .before .before .before .loop in (
+      t .inv .0,
+      t .inv .1,
+      stop-goes-on (stopped k) (c .before .before .before .before .before .if1 .left) (c .before .before .before .if2 .taken) _
+          (c .before .before .bit-at .ensures) (c .if3 .taken),
+      t .inv .3,
+    )
 
 loop-less-3 : tie.Need-loop-less-3 Inv-loop μ-loop
 loop-less-3 c = turn-less (c .before .before .before .before .before .before .before .before .before)
@@ -80,8 +91,14 @@ loop-less-3 c = turn-less (c .before .before .before .before .before .before .be
 loop-again-3 : tie.Need-loop-again-3 Inv-loop μ-loop
 loop-again-3 c =
     let k = c .before .before .before .before .before .before .before .before .before .before .before in
-    let t = k .before .before .before .before .loop in
-    (t .inv .0, refl, stop-starts (stopped k) (c .before .before .before .before .before .before .before .before .before .if1 .left) (c .before .before .before .before .before .before .before .if2 .taken) _ (c .before .before .before .before .before .before .bit-at .ensures) (c .before .before .before .before .if3 .left), refl)
+    let t = k .before .before .before .before .loop in (
+      t .inv .0,
+      refl,
+      stop-starts (stopped k) (c .before .before .before .before .before .before .before .before .before .if1 .left)
+          (c .before .before .before .before .before .before .before .if2 .taken) _ (c .before .before .before .before .before .before .bit-at .ensures)
+          (c .before .before .before .before .if3 .left),
+      refl,
+    )
 
 bit-at-requires-2 : tie.Need-bit-at-requires-2 Inv-loop μ-loop
 bit-at-requires-2 c κs = omega arith
@@ -95,14 +112,23 @@ loop-less-4 c = turn-less (c .before .before .before .before .before .before)
 loop-again-4 : tie.Need-loop-again-4 Inv-loop μ-loop
 loop-again-4 c =
     let k = c .before .before .before .before .before .before .before .before in
-    let t = k .before .before .before .before .loop in
-    (t .inv .0, t .inv .1, stop-stalls (stopped k) (c .before .before .before .before .before .before .if1 .left) (c .before .before .before .before .if2 .left) (c .before .before .before .if4 .taken) _ (c .before .before .bit-at2 .ensures) (sym (c .before .may-stall .ensures) ∙ c .if5 .taken), t .inv .3)
+    let t = k .before .before .before .before .loop in (
+      t .inv .0,
+      t .inv .1,
+      stop-stalls (stopped k) (c .before .before .before .before .before .before .if1 .left)
+          (c .before .before .before .before .if2 .left) (c .before .before .before .if4 .taken) _ (c .before .before .bit-at2 .ensures)
+          (sym (c .before .may-stall .ensures) ∙ c .if5 .taken),
+      t .inv .3,
+    )
 
 pass-end-requires : tie.Need-pass-end-requires Inv-loop μ-loop
 pass-end-requires c κs =
     let b = c .before .before .before .before .before in
     let k = b .before .before .before .before .before .before .before .before in
-    passing (k .before .before .before .before .loop .inv .2) (stop-ends (stopped k) (b .before .before .before .before .before .before .if1 .left) (b .before .before .before .before .if2 .left) (b .before .before .before .if4 .taken) _ (b .before .before .bit-at2 .ensures) (sym (b .before .may-stall .ensures) ∙ b .if5 .left)) (k .before .before .before .before .before .before .before .before .before .before .before .before .before .before .before .before .pre .few)
+    passing (k .before .before .before .before .loop .inv .2)
+    (stop-ends (stopped k) (b .before .before .before .before .before .before .if1 .left) (b .before .before .before .before .if2 .left)
+    (b .before .before .before .if4 .taken) _ (b .before .before .bit-at2 .ensures) (sym (b .before .may-stall .ensures) ∙ b .if5 .left))
+    (k .before .before .before .before .before .before .before .before .before .before .before .before .before .before .before .before .before .pre .few)
 
 bit-at-requires-3 : tie.Need-bit-at-requires-3 Inv-loop μ-loop
 bit-at-requires-3 c κs = omega arith
@@ -120,8 +146,10 @@ loop-again-5 : tie.Need-loop-again-5 Inv-loop μ-loop
 loop-again-5 c =
     let k = c .before .before .before .before .before .before .before .before .before .before .before in
     let t = k .before .before .before .before .loop in
-    let n = k .before .before .before .before .before .before .before .is-newer .ensures in
-    let r = stop-enters-newer (stopped k) (c .before .before .before .before .before .before .before .before .before .if1 .left) (c .before .before .before .before .before .before .before .if2 .left) (c .before .before .before .before .before .before .if4 .left) (c .before .before .before .before .before .if6 .taken) _ (instruction-is (c .before .before .before)) (sym n ∙ c .if7 .taken) in
+    let n = k .before .before .before .before .before .before .before .before .is-newer .ensures in
+    let r = stop-enters-newer (stopped k) (c .before .before .before .before .before .before .before .before .before .if1 .left)
+    (c .before .before .before .before .before .before .before .if2 .left) (c .before .before .before .before .before .before .if4 .left)
+    (c .before .before .before .before .before .if6 .taken) _ (instruction-is (c .before .before .before)) (sym n ∙ c .if7 .taken) in
     (t .inv .0, refl, r, line-now r _ _ n (c .before .line-at2 .ensures))
 
 add-s : tie.Need-add-s Inv-loop μ-loop
@@ -140,32 +168,52 @@ loop-again-6 : tie.Need-loop-again-6 Inv-loop μ-loop
 loop-again-6 c =
     let k = c .before .before .before .before .before .before .before .before .before .before .before .before .before in
     let t = k .before .before .before .before .loop in
-    let n = k .before .before .before .before .before .before .before .is-newer .ensures in
-    let r = stop-enters-older (stopped k) (c .before .before .before .before .before .before .before .before .before .before .before .if1 .left) (c .before .before .before .before .before .before .before .before .before .if2 .left) (c .before .before .before .before .before .before .before .before .if4 .left) (c .before .before .before .before .before .before .before .if6 .taken) _ (instruction-is (c .before .before .before .before .before)) (sym n ∙ c .before .before .if7 .left) (sym (c .before .reaches .ensures) ∙ c .if8 .taken) in
+    let n = k .before .before .before .before .before .before .before .before .is-newer .ensures in
+    let r = stop-enters-older (stopped k) (c .before .before .before .before .before .before .before .before .before .before .before .if1 .left)
+    (c .before .before .before .before .before .before .before .before .before .if2 .left)
+    (c .before .before .before .before .before .before .before .before .if4 .left) (c .before .before .before .before .before .before .before .if6 .taken) _
+    (instruction-is (c .before .before .before .before .before)) (sym n ∙ c .before .before .if7 .left) (sym (c .before .reaches .ensures) ∙ c .if8 .taken) in
     (t .inv .0, refl, r, line-now r _ _ n (c .before .before .before .line-at2 .ensures))
 
 bit-at-requires-4 : tie.Need-bit-at-requires-4 Inv-loop μ-loop
 bit-at-requires-4 c κs =
     let t = c .before .before .before .before .before .before .before .before .before .before .before .loop in
-    omega (arith, t .inv .3, line-lt (c .before .before .before .before .before .before .before .before .before .before .before .before .before .before .before .before .before .before .before .before .before .before .before .args .chip) (phased (t .s) (t .last)))
+    omega (
+      arith,
+      t .inv .3,
+      line-lt
+          (c .before .before .before .before .before .before .before .before .before .before .before .before .before .before .before .before .before .before .before .before .before .before .before .before .args .chip) (phased (t .s) (t .last)),
+    )
 
 shift-in-requires-2 : tie.Need-shift-in-requires-2 Inv-loop μ-loop
 shift-in-requires-2 c κs = room-for-bit _ (stopped (c .before .before .before .before .before .before .before .before) .reached .good)
 
 cast-byte : tie.Need-cast-byte Inv-loop μ-loop
-cast-byte c = omega (arith, c .shift-in2 .ensures, byte-small (stopped (c .before .before .before .before .before .before .before .before .before)) (c .before .before .if9 .taken) (c .before .bit-at4 .result))
+cast-byte c =
+    omega (
+      arith,
+      c .shift-in2 .ensures,
+      byte-small (stopped (c .before .before .before .before .before .before .before .before .before))
+          (c .before .before .if9 .taken) (c .before .bit-at4 .result),
+    )
 
 pass-byte-requires : tie.Need-pass-byte-requires Inv-loop μ-loop
 pass-byte-requires c κs =
     let b = c .before .before .before .before .before in
-    let k = b .before .before .before .before .before .before .before .before .before in
-    passing (k .before .before .before .before .loop .inv .2) (stop-whole (stopped k) (b .before .before .before .before .before .before .before .if1 .left) (b .before .before .before .before .before .if2 .left) (b .before .before .before .before .if4 .left) (b .before .before .if9 .taken) _ (byte-is b)) (k .before .before .before .before .before .before .before .before .before .before .before .before .before .before .before .before .pre .few)
+    let k = b .before .before .before .before .before .before .before .before .before in (
+      passing (k .before .before .before .before .loop .inv .2)
+          (stop-whole (stopped k) (b .before .before .before .before .before .before .before .if1 .left) (b .before .before .before .before .before .if2 .left)
+          (b .before .before .before .before .if4 .left) (b .before .before .if9 .taken) _ (byte-is b))
+          (k .before .before .before .before .before .before .before .before .before .before .before .before .before .before .before .before .before .pre .few),
+      k .before .before .before .before .before .before .before .moves-at-rise .ensures,
+    )
 
 after-requires : tie.Need-after-requires Inv-loop μ-loop
 after-requires c κs = search needs
 
 loop-less-7 : tie.Need-loop-less-7 Inv-loop μ-loop
-loop-less-7 c = turn-less (c .before .before .before .before .before .before .before .before .before .before .before .before .before .before .before .before .before .before .before .before .before .before .before .before .before .before .before .before .before .before)
+loop-less-7 c =
+    turn-less (c .before .before .before .before .before .before .before .before .before .before .before .before .before .before .before .before .before .before .before .before .before .before .before .before .before .before .before .before .before .before)
 
 loop-again-7 : tie.Need-loop-again-7 Inv-loop μ-loop
 loop-again-7 c =
@@ -173,14 +221,18 @@ loop-again-7 c =
     let e = q .before .before .before .before .before .before .before .before .before .before .before in
     let b = e .before .before .before .before .before .before in
     let k = b .before .before .before .before .before .before .before .before .before in
-    let r = byte-on e _ (stop-single (stopped k) (b .before .before .before .before .before .before .before .if1 .left) (b .before .before .before .before .before .if2 .left) (b .before .before .before .before .if4 .left) (b .before .before .if9 .taken) _ (byte-is b) (settled-is q) (sym (k .before .before .before .before .before .before .before .is-newer .ensures) ∙ c .before .before .before .before .before .if11 .taken) (c .before .before .before .before .if12 .taken)) in
+    let r = byte-on e _ (stop-single (stopped k) (b .before .before .before .before .before .before .before .if1 .left)
+    (b .before .before .before .before .before .if2 .left) (b .before .before .before .before .if4 .left) (b .before .before .if9 .taken) _ (byte-is b)
+    (settled-is q) (sym (k .before .before .before .before .before .before .before .before .is-newer .ensures)
+    ∙ c .before .before .before .before .before .if11 .taken) (c .before .before .before .before .if12 .taken)) in
     (r .0, refl, r .1, refl)
 
 next-address-requires : tie.Need-next-address-requires Inv-loop μ-loop
 next-address-requires c κs = near (c .before .before)
 
 loop-less-8 : tie.Need-loop-less-8 Inv-loop μ-loop
-loop-less-8 c = turn-less (c .before .before .before .before .before .before .before .before .before .before .before .before .before .before .before .before .before .before .before .before .before .before .before .before .before .before .before)
+loop-less-8 c =
+    turn-less (c .before .before .before .before .before .before .before .before .before .before .before .before .before .before .before .before .before .before .before .before .before .before .before .before .before .before .before)
 
 loop-again-8 : tie.Need-loop-again-8 Inv-loop μ-loop
 loop-again-8 c =
@@ -188,9 +240,18 @@ loop-again-8 c =
     let e = q .before .before .before .before .before .before .before .before .before .before .before in
     let b = e .before .before .before .before .before .before in
     let k = b .before .before .before .before .before .before .before .before .before in
-    let r = byte-on e _ (stop-next (stopped k) (b .before .before .before .before .before .before .before .if1 .left) (b .before .before .before .before .before .if2 .left) (b .before .before .before .before .if4 .left) (b .before .before .if9 .taken) _ (byte-is b) (settled-is q) (sym (k .before .before .before .before .before .before .before .is-newer .ensures) ∙ c .before .before .if11 .taken) _ (c .before .if12 .left, c .next-address .ensures)) in
-    let t = k .before .before .before .before .loop in
-    (r .0, t .inv .1, r .1, line-kept (k .before .before .before .before .before .before .before .before .before .before .before .before .before .before .before .before .args .chip) (t .s) (t .last) (settled-is q) (t .inv .3))
+    let r = byte-on e _ (stop-next (stopped k) (b .before .before .before .before .before .before .before .if1 .left)
+    (b .before .before .before .before .before .if2 .left) (b .before .before .before .before .if4 .left) (b .before .before .if9 .taken) _ (byte-is b)
+    (settled-is q) (sym (k .before .before .before .before .before .before .before .before .is-newer .ensures) ∙ c .before .before .if11 .taken) _
+    (c .before .if12 .left, c .next-address .ensures)) in
+    let t = k .before .before .before .before .loop in (
+      r .0,
+      t .inv .1,
+      r .1,
+      line-kept
+          (k .before .before .before .before .before .before .before .before .before .before .before .before .before .before .before .before .before .args .chip)
+          (t .s) (t .last) (settled-is q) (t .inv .3),
+    )
 
 runs-out-requires : tie.Need-runs-out-requires Inv-loop μ-loop
 runs-out-requires c κs = search needs
@@ -202,7 +263,8 @@ left-after-requires : tie.Need-left-after-requires Inv-loop μ-loop
 left-after-requires c κs = search needs
 
 loop-less-9 : tie.Need-loop-less-9 Inv-loop μ-loop
-loop-less-9 c = turn-less (c .before .before .before .before .before .before .before .before .before .before .before .before .before .before .before .before .before .before .before .before .before .before .before .before .before .before .before .before .before)
+loop-less-9 c =
+    turn-less (c .before .before .before .before .before .before .before .before .before .before .before .before .before .before .before .before .before .before .before .before .before .before .before .before .before .before .before .before .before)
 
 loop-again-9 : tie.Need-loop-again-9 Inv-loop μ-loop
 loop-again-9 c =
@@ -210,9 +272,23 @@ loop-again-9 c =
     let e = q .before .before .before .before .before .before .before .before .before .before .before in
     let b = e .before .before .before .before .before .before in
     let k = b .before .before .before .before .before .before .before .before .before in
-    let r = byte-on e _ (stop-run (stopped k) (b .before .before .before .before .before .before .before .if1 .left) (b .before .before .before .before .before .if2 .left) (b .before .before .before .before .if4 .left) (b .before .before .if9 .taken) _ (byte-is b) (settled-is q) (sym (k .before .before .before .before .before .before .before .is-newer .ensures) ∙ c .before .before .before .before .if11 .left) _ _ (sym (c .before .before .before .runs-out .ensures) ∙ not-true _ (c .before .before .if13 .taken), c .before .next-address2 .ensures, c .left-after .ensures)) in
-    let t = k .before .before .before .before .loop in
-    (r .0, t .inv .1, r .1, line-kept (k .before .before .before .before .before .before .before .before .before .before .before .before .before .before .before .before .args .chip) (t .s) (t .last) (settled-is q) (t .inv .3))
+    let r = byte-on e _ (stop-run (stopped k) (b .before .before .before .before .before .before .before .if1 .left)
+    (b .before .before .before .before .before .if2 .left) (b .before .before .before .before .if4 .left) (b .before .before .if9 .taken) _ (byte-is b)
+    (settled-is q) (sym (k .before .before .before .before .before .before .before .before .is-newer .ensures)
+    ∙ c .before .before .before .before .if11 .left) _ _ (
+      sym (c .before .before .before .runs-out .ensures) ∙ not-true _
+          (c .before .before .if13 .taken),
+      c .before .next-address2 .ensures,
+      c .left-after .ensures,
+    )) in
+    let t = k .before .before .before .before .loop in (
+      r .0,
+      t .inv .1,
+      r .1,
+      line-kept
+          (k .before .before .before .before .before .before .before .before .before .before .before .before .before .before .before .before .before .args .chip)
+          (t .s) (t .last) (settled-is q) (t .inv .3),
+    )
 
 loop-less-10 : tie.Need-loop-less-10 Inv-loop μ-loop
 loop-less-10 c = turn-less (c .before .before .before .before .before)
@@ -220,8 +296,13 @@ loop-less-10 c = turn-less (c .before .before .before .before .before)
 loop-again-10 : tie.Need-loop-again-10 Inv-loop μ-loop
 loop-again-10 c =
     let k = c .before .before .before .before .before .before .before in
-    let t = k .before .before .before .before .loop in
-    (t .inv .0, t .inv .1, stop-passes (stopped k) (c .before .before .before .before .before .if1 .left) (c .before .before .before .if2 .left) (c .before .before .if4 .left) (c .before .if6 .left) (c .if9 .left), t .inv .3)
+    let t = k .before .before .before .before .loop in (
+      t .inv .0,
+      t .inv .1,
+      stop-passes (stopped k) (c .before .before .before .before .before .if1 .left) (c .before .before .before .if2 .left)
+          (c .before .before .if4 .left) (c .before .if6 .left) (c .if9 .left),
+      t .inv .3,
+    )
 
 loop-less-11 : tie.Need-loop-less-11 Inv-loop μ-loop
 loop-less-11 c = turn-less (c .before .before .before .before .before .before .before)
@@ -255,6 +336,7 @@ run-samples-spec =
     μ-loop
     last-of-requires
     is-newer-requires
+    moves-at-rise-requires
     line-at-requires
     loop-holds
     level-of-requires

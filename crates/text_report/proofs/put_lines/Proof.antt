@@ -4,9 +4,10 @@ use mathlib.Core.Path.{ap, _∙_}
 use Prim.Native.Nat.{_-_}
 use native.Mathlib.Omega.{arith}
 use lib.ListN.{length-drop}
+use Rattle.base_bits.proofs.Buffer.{from-on}
 use Rattle.text_lines.specs.Line.{lineOf}
 use Rattle.text_lines.proofs.Laws.{line-length}
-use Rattle.text_report.proofs.Laws.{Listing, listing-begun, turned, ended, from-on}
+use Rattle.text_report.proofs.Laws.{Listing, listing-begun, turned, ended}
 use Rattle.text_report.proofs.put_lines.Statement.{statement}
 use Rattle.text_report.proofs.put_lines.Tie as tie
 

@@ -3,19 +3,20 @@ use mathlib.Core.Path.{_∙_, ap}
 use Prim.Native.Nat.{_-_}
 use native.Mathlib.Omega.{arith}
 use lib.ListN.{length-drop}
+use Rattle.base_bits.proofs.Buffer.{from-on}
 use Rattle.read_records.specs.Slow.{asksSlow}
-use Rattle.read_records.proofs.SlowCount.{Counting, begun, turned, ended, from-on, flag-most}
+use Rattle.read_records.proofs.SlowCount.{SlowCounting, slow-counting-begun, turned, ended, flag-most}
 use Rattle.read_records.proofs.slow.count_slow.Statement.{statement}
 use Rattle.read_records.proofs.slow.count_slow.Tie as tie
 
 abbrev Inv-loop : tie.InvT-loop
-Inv-loop records all slow₀ n₀ slow n = Counting records all slow n
+Inv-loop records all slow₀ n₀ slow n = SlowCounting records all slow n
 
 abbrev μ-loop : tie.MeasureT-loop
 μ-loop records all slow₀ n₀ slow n = all - n
 
 loop-holds : tie.Need-loop-holds Inv-loop μ-loop
-loop-holds c = begun _ _
+loop-holds c = slow-counting-begun _ _
 
 mul-asks-slow : tie.Need-mul-asks-slow Inv-loop μ-loop
 mul-asks-slow c = omega arith

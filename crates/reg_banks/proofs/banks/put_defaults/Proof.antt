@@ -4,7 +4,7 @@ use Prim.Native.Nat.{_-_}
 use lib.ListN.{length}
 use mathlib.Core.Path.{ap, _∙_}
 use Rattle.reg_banks.specs.Banks.{defaultsFrom}
-use Rattle.reg_banks.proofs.Filling.{Filling, begun, stored, ended}
+use Rattle.reg_banks.proofs.Filling.{Filling, filling-begun, stored, ended}
 use Rattle.reg_banks.proofs.Laws.{defaultsOver, defaults-rule}
 use Rattle.reg_banks.proofs.banks.put_defaults.Statement.{statement}
 use Rattle.reg_banks.proofs.banks.put_defaults.Tie as tie
@@ -16,7 +16,7 @@ abbrev μ-loop : tie.MeasureT-loop
 μ-loop map bank₀ i₀ bank i = length bank₀ - i
 
 loop-holds : tie.Need-loop-holds Inv-loop μ-loop
-loop-holds c = begun _ _
+loop-holds c = filling-begun _ _
 
 entry-at-requires : tie.Need-entry-at-requires Inv-loop μ-loop
 entry-at-requires c κs = search needs

@@ -9,7 +9,7 @@ use mathlib.Core.Logic.{⊎-elim}
 use Rattle.base_bits.proofs.Cases.{yes, no}
 use Rattle.map_format.specs.Format.{registerAt}
 use Rattle.reg_banks.specs.Banks.{banks, transferred}
-use Rattle.reg_banks.proofs.Filling.{Filling, begun, stored, kept, ended}
+use Rattle.reg_banks.proofs.Filling.{Filling, filling-begun, stored, kept, ended}
 use Rattle.reg_banks.proofs.Laws.{transferOver, transfer-rule}
 use Rattle.reg_banks.proofs.banks.transfer.Statement.{statement}
 use Rattle.reg_banks.proofs.banks.transfer.Tie as tie
@@ -26,7 +26,7 @@ kind-is c =
     rw (c .entry-at .ensures, c .before .before .loop .inv .same, c .before .before .before .before .before .before .pre .active-size)
 
 loop-holds : tie.Need-loop-holds Inv-loop μ-loop
-loop-holds c = begun _ _
+loop-holds c = filling-begun _ _
 
 entry-at-requires : tie.Need-entry-at-requires Inv-loop μ-loop
 entry-at-requires c κs = search needs

@@ -61,7 +61,8 @@ same-length c = search needs
 returns-2 : tie.Need-returns-2
 unfolding applied
 returns-2 c =
-    rw (c .before .before .effect .given .1, c .if1 .taken) (sym (placed-buffer-byte (c .before .before .before .before .before .before .pre .0) _ _ (below (c .before))))
+    rw (c .before .before .effect .given .1, c .if1 .taken)
+    (sym (placed-buffer-byte (c .before .before .before .before .before .before .pre .0) _ _ (below (c .before))))
 
 same-length-2 : tie.Need-same-length-2
 same-length-2 c = search needs
@@ -69,7 +70,8 @@ same-length-2 c = search needs
 returns-3 : tie.Need-returns-3
 unfolding applied
 returns-3 c =
-    rw (c .before .before .effect .given .1, c .if1 .left) (sym (placed-active-byte (c .before .before .before .before .before .before .pre .0) _ _ (below (c .before))))
+    rw (c .before .before .effect .given .1, c .if1 .left)
+    (sym (placed-active-byte (c .before .before .before .before .before .before .pre .0) _ _ (below (c .before))))
 
 returns-4 : tie.Need-returns-4
 unfolding applied

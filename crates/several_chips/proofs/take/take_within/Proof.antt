@@ -21,8 +21,8 @@ put-read-requires c κs =
     room-for (c .before .before .before .before .before .before .before .before .before .before .pre)
     (ap recordsIn (c .before .before .before .before .before .event .given .1))
 
-add-t29 : tie.Need-add-t29
-add-t29 c = search needs
+add-t30 : tie.Need-add-t30
+add-t30 c = search needs
 
 same-length : tie.Need-same-length
 same-length c = search needs
@@ -44,17 +44,20 @@ put-write-requires c κs =
     room-for (c .before .before .before .before .before .before .before .before .before .before .before .before .pre)
     (ap recordsIn (c .before .before .before .before .before .before .before .event .given .1))
 
+moves-at-rise-requires : tie.Need-moves-at-rise-requires
+moves-at-rise-requires c κs = search needs
+
 armed-on-requires : tie.Need-armed-on-requires
 armed-on-requires c κs = search needs
 
-add-t36 : tie.Need-add-t36
-add-t36 c =
+add-t37 : tie.Need-add-t37
+add-t37 c =
     omega (
       arith,
-      room-for (c .before .before .before .before .before .before .before .before .before .before .before .before .before .before .before .before .pre)
+      room-for (c .before .before .before .before .before .before .before .before .before .before .before .before .before .before .before .before .before .pre)
           (ap recordsIn
-          (c .before .before .before .before .before .before .before .before .before .before .before .event .given .1)),
-      c .before .before .before .before .before .before .before .before .before .before .before .before .before .before .before .before .good,
+          (c .before .before .before .before .before .before .before .before .before .before .before .before .event .given .1)),
+      c .before .before .before .before .before .before .before .before .before .before .before .before .before .before .before .before .before .good,
     )
 
 enum-known-event-2 : tie.Need-enum-known-event-2
@@ -86,10 +89,11 @@ same-length-4 c = search needs
 
 returns-3 : tie.Need-returns-3
 returns-3 c =
-    took-write (c .before .before .before .before .before .before .before .before .before .before .before .before .before .before .before .before .pre)
-    (c .before .before .before .before .before .before .before .before .before .before .before .event .given .1)
-    (c .before .before .before .before .before .before .before .before .before .if1 .left)
-    (c .before .before .before .before .before .before .before .write-within .ensures) (c .before .before .before .put-write .ensures) (c .armed-on .ensures)
+    took-write (c .before .before .before .before .before .before .before .before .before .before .before .before .before .before .before .before .before .pre)
+    (c .before .before .before .before .before .before .before .before .before .before .before .before .event .given .1)
+    (c .before .before .before .before .before .before .before .before .before .before .if1 .left)
+    (c .before .before .before .before .before .before .before .before .write-within .ensures) (c .before .before .before .before .put-write .ensures)
+    (c .before .moves-at-rise .ensures) (c .armed-on .ensures)
 
 same-length-5 : tie.Need-same-length-5
 same-length-5 c = search needs
@@ -119,14 +123,15 @@ take-within-spec =
     enum-known-event
     due-within-requires
     put-read-requires
-    add-t29
+    add-t30
     same-length
     same-length-2
     returns
     write-within-requires
     put-write-requires
+    moves-at-rise-requires
     armed-on-requires
-    add-t36
+    add-t37
     enum-known-event-2
     put-abort-requires
     add-take-end-within
