@@ -10,7 +10,6 @@ use lib.ListN.{length}
 use borrow.Author.Tests.{ne-eqb, le-leb, leb-true, eqb-true}
 use Rattle.base_bits.proofs.Cases.{each}
 use Rattle.base_chip.specs.declared.Part.{Part}
-use Rattle.base_chip.specs.declared.Chip.{Chip}
 use Rattle.base_chip.specs.declared.Chip.the-variants.{Newer, Older}
 use Rattle.bus_settings.specs.declared.Settings.{Settings}
 use Rattle.bus_settings.specs.declared.InUse.{InUse}

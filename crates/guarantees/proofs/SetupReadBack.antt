@@ -12,7 +12,6 @@ use Rattle.base_bits.specs.Bits.{bitAt}
 use Rattle.base_bits.specs.Buffer.{filled}
 use Rattle.base_bits.specs.Bytes.{wordAt}
 use Rattle.base_bits.proofs.Cases.{and-left, and-right, or-left, or-right}
-use Rattle.base_chip.specs.declared.Chip.{Chip}
 use Rattle.base_chip.specs.declared.Chip.the-variants.{Newer}
 use Rattle.base_chip.specs.Registers.{configurationA, configurationB}
 use Rattle.bus_settings.specs.declared.Settings.{Settings}

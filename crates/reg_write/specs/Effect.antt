@@ -30,7 +30,7 @@ controlEffect c a v =
 abbrev pub movedBits : ℕ → ℕ → ℕ → ℕ
 movedBits old v mask = bitXor old (merged 8 old v mask)
 
--- such a byte at an address, of the buffer stage if so, else of the active stage
+-- such a byte at an address: that of the buffer stage or, if not of the buffer, that of the active stage
 abbrev pub byteEffect : Bool → ℕ → ℕ → ℕ → ℕ → Effect
 byteEffect ofBuffer a old v mask = Byte ofBuffer a (merged 8 old v mask) (movedBits old v mask)
 

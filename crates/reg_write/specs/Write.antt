@@ -24,7 +24,7 @@ stagesAt b a = record { active = getD (b .active) a 0; buffer = getD (b .buffer)
 abbrev pub effectAt : Chip → List ℕ → Banks → ℕ → ℕ → Effect
 effectAt c m b a v = effectOf c (registerAt m a) (stagesAt b a) a v
 
--- a byte put into one stage of a register: into its buffer stage if so, else into its active stage
+-- a byte put into one stage of the register at an address
 abbrev pub withByte : Bool → Banks → ℕ → ℕ → Banks
 withByte false b a byte = banks (set (b .active) a byte) (b .buffer)
 withByte true b a byte = banks (b .active) (set (b .buffer) a byte)
@@ -78,7 +78,7 @@ onByte Transfer = false
 onByte Reset = false
 onByte Ignored = false
 
--- if it is on a byte, then on that of one of the first n registers
+-- what applying an effect to n registers asks: if it is on a byte, then on that of one of them
 abbrev pub ByteBelow : ℕ → Effect → Type 0
 ByteBelow n e = (ofBuffer : Bool) (a byte moved : ℕ) → e ≡ Byte ofBuffer a byte moved → a < n
 

@@ -1,6 +1,6 @@
 // The write of one register: its effect is decided first, then applied to the two banks and answered.
 ghost use mathlib.Core.Path.{_≡_};
-ghost use mathlib.Core.Bool.{true, cond};
+ghost use mathlib.Core.Bool.{cond};
 ghost use Prim.Native.Nat.{_<_};
 ghost use lib.ListN.{length};
 ghost use Rattle.reg_banks.specs.Banks.{banks, Mapped};

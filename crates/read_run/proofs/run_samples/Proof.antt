@@ -1,7 +1,6 @@
 -- `run_samples` meets its contract: what is passed, with what the samples left will give, is the whole. Each turn goes to a stop, and the
 -- sample there has a law of its own.
 mod Turn
-use Prim.Native.Nat.{_-_}
 use mathlib.Core.Path.{refl, sym, _∙_}
 use native.Mathlib.Omega.{arith}
 use borrow.Author.Needs.{needs}
