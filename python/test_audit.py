@@ -1,8 +1,11 @@
 #!/usr/bin/env python3
-"""Tests of tools/audit: that it finds what has to be believed, and complains of what names no section. Each prints a line that begins with ok."""
+"""Tests of tools/audit: that it finds what has to be believed, and complains of what names no section and of files of rules that are not listed. Each prints
+a line that begins with ok."""
 import importlib.machinery
 import importlib.util
 import os
+import re
+import shutil
 import subprocess
 import sys
 import tempfile
@@ -16,6 +19,7 @@ sys.dont_write_bytecode = True
 audit = importlib.util.module_from_spec(importlib.util.spec_from_loader('audit', loader))
 loader.exec_module(audit)
 
+RULES = audit.rule_files(ROOT / 'docs/RULES.md')
 SECTIONS = audit.sections_of('# Rules\n\n## The map\n\nBytes.\n\n## Several chips\n\nAsked for by document 02, Ask 10.\n\n## Known results (a star)\n\nNone.\n')
 
 FILE = '''-- Document 01, "The map": a file for a test.
@@ -38,6 +42,15 @@ def made_file(text, crate='made'):
         path.parent.mkdir(parents=True)
         path.write_text(text)
         return audit.File(path)
+
+
+def copied(folder):
+    """A copy of the tool in this folder, with a copy of the documents, and the crates as they are."""
+    shutil.copytree(ROOT / 'docs', Path(folder) / 'docs')
+    for name in ('crates', 'crates.txt'):
+        (Path(folder) / name).symlink_to(ROOT / name)
+    (Path(folder) / 'tools').mkdir()
+    return shutil.copy(TOOL, Path(folder) / 'tools')
 
 
 class Lines(unittest.TextTestResult):
@@ -75,6 +88,29 @@ class Audit(unittest.TestCase):
         self.assertIn('made/specs/Test.antt:Pair names no section', ' '.join(said))
         self.assertIn('no definition names the section "Several chips"', ' '.join(said))
 
+    def test_unlisted(self):
+        """a file of docs/rules/ that RULES does not list is complained of"""
+        with tempfile.TemporaryDirectory() as folder:
+            tool = copied(folder)
+            (Path(folder) / 'docs/rules/forgotten.md').write_text('# Forgotten\n')
+            ended = subprocess.run([sys.executable, tool], capture_output=True, text=True)
+        said = 'audit: docs/rules/forgotten.md is not in the list of contents of docs/RULES.md\n'
+        self.assertEqual((ended.returncode, ended.stderr), (1, said))
+
+    def test_missing(self):
+        """a file that RULES lists and that is not there is complained of"""
+        with tempfile.TemporaryDirectory() as folder:
+            tool = copied(folder)
+            (Path(folder) / 'docs/rules/sending.md').unlink()
+            ended = subprocess.run([sys.executable, tool], capture_output=True, text=True)
+        said = 'audit: docs/RULES.md lists docs/rules/sending.md, which is not there'
+        self.assertEqual((ended.returncode, ended.stderr.split('\n')[0]), (1, said))
+
+    def test_contents(self):
+        """the list of contents of RULES has every section of every file, in order"""
+        contents = ' '.join(RULES[0].read_text().split('\n## ')[0].split())
+        self.assertEqual(re.findall(r'"([^"]+)"', contents.split(' - this page: ')[1]), list(audit.all_sections(RULES)))
+
     def test_page(self):
         """the page of this repository is written, and has every section that says rules, and every exported call"""
         with tempfile.TemporaryDirectory() as folder:
@@ -82,7 +118,7 @@ class Audit(unittest.TestCase):
             ended = subprocess.run([sys.executable, TOOL, '-o', path], capture_output=True, text=True)
             self.assertEqual((ended.returncode, ended.stderr), (0, ''))
             page = Path(path).read_text()
-        for title in audit.sections_of((ROOT / 'docs/RULES.md').read_text()):
+        for title in audit.all_sections(RULES):
             self.assertEqual(f'<h2>{title}</h2>' in page, title not in audit.PLAIN, title)
         for word in ('couplingnut_read_several', 'stepOf c s x =', 'StoppedRun', '</html>'):
             self.assertIn(word, page)

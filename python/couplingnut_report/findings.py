@@ -1,7 +1,7 @@
 """The verdict: what stands against signing a unit out, each as a sentence, and what is only remarked.
 
-A unit is ready when the list of reasons is empty. The rule is written out in docs/RULES.md, "The verdict of a report"; each function below
-is one of its conditions.
+A unit is ready when the list of reasons is empty. The rule is written out in docs/rules/programs.md, "The verdict of a report"; each function
+below is one of its conditions.
 """
 from __future__ import annotations
 

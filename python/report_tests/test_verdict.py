@@ -1,4 +1,4 @@
-"""The verdict rule, case by case (docs/RULES.md, "The verdict of a report")."""
+"""The verdict rule, case by case (docs/rules/programs.md, "The verdict of a report")."""
 import unittest
 
 from report_tests import made

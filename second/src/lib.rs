@@ -25,7 +25,7 @@
 //! | `several` | document 02, Ask 10, on copies of the banks |
 //! | `mend` | document 02, Ask 12 |
 //! | `frames` | document 02, Ask 13 |
-//! | `verdict` | the rule of the bench report, docs/RULES.md |
+//! | `verdict` | the rule of the bench report, docs/rules/programs.md |
 //!
 //! The call for the next record, in `reader`, is the library's own: document 01
 //! does not have it.

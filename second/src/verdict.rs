@@ -1,5 +1,5 @@
-//! The verdict of a report, by the rule in docs/RULES.md, from what the second
-//! implementation reads: a list of the conditions that fail, by their names.
+//! The verdict of a report, by the rule in docs/rules/programs.md, from what the
+//! second implementation reads: a list of the conditions that fail, by their names.
 
 use super::map::{RegisterMap, BLANK, BUFFERED};
 use super::reader::{next_record, open, Banks, CUT, READ, RECORD, WRITE};

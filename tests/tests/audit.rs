@@ -1,10 +1,19 @@
-//! The references of docs/AUDIT.md can't rot: each file is there, and each name in it.
+//! The references of docs/AUDIT.md and docs/audit/ can't rot: each file is there, and each name in it.
 
 use std::fs;
 use std::path::{Path, PathBuf};
 
 fn repository() -> PathBuf {
     Path::new(env!("CARGO_MANIFEST_DIR")).join("..")
+}
+
+/// docs/AUDIT.md, and every page of docs/audit/.
+fn pages() -> Vec<PathBuf> {
+    let docs = repository().join("docs");
+    let further = fs::read_dir(docs.join("audit")).expect("docs/audit");
+    let further = further.map(|entry| entry.expect("docs/audit").path());
+    let further = further.filter(|path| path.extension().is_some_and(|ending| ending == "md"));
+    [docs.join("AUDIT.md")].into_iter().chain(further).collect()
 }
 
 /// The words between backticks that name a file of ours, with the name in it where one is given.
@@ -42,8 +51,11 @@ fn has_word(text: &str, name: &str) -> bool {
 
 #[test]
 fn every_reference_exists() {
-    let page = fs::read_to_string(repository().join("docs/AUDIT.md")).expect("docs/AUDIT.md");
-    let found = references(&page);
+    let mut found = Vec::new();
+    for page in pages() {
+        let text = fs::read_to_string(&page).unwrap_or_else(|e| panic!("{}: {e}", page.display()));
+        found.extend(references(&text));
+    }
     assert!(found.len() > 100, "only {} references were found", found.len());
     for (file, name) in found {
         let path = path_of(&file);
