@@ -2,6 +2,7 @@
 ghost use mathlib.Core.Path.{_≡_};
 ghost use Rattle.bus_session.specs.State.{isData, PortBounds};
 ghost use Rattle.bus_session.specs.Event.{eventOf};
+use crate::CSB;
 use crate::Event;
 use crate::Phase;
 use crate::Port;
@@ -44,7 +45,7 @@ impl Port {
                 byte: value as u8,
             };
         }
-        let rises = !self.csb & bit_at(sample, 0);
+        let rises = !self.csb & bit_at(sample, CSB);
         if !rises | may_stall(self.left, self.bits) {
             return Event::Nothing;
         }

@@ -15,6 +15,15 @@ pub use step::may_stall;
 pub use step::runs_out;
 pub use step::takes_bit;
 
+// The lines of a sample, by their bits.
+pub const CSB: u8 = 0;
+
+pub const SCLK: u8 = 1;
+
+pub const SDIO: u8 = 2;
+
+pub const SDO: u8 = 3;
+
 // The bytes left where a run of an older chip streams.
 pub const STREAMS: u8 = 4;
 

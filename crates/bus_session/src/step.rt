@@ -7,8 +7,12 @@ ghost use Rattle.bus_settings.specs.Settings.{settingsAfter};
 ghost use Rattle.bus_session.specs.declared.Phase.the-variants.{Data};
 ghost use Rattle.bus_session.specs.State.{isCounted, PortBounds};
 ghost use Rattle.bus_session.specs.Step.{csbOf, sclkOf, sdioOf, sdoOf, entered, withInstructionBit, runsOut, afterByte, withDataBit, stepOf};
+use crate::CSB;
 use crate::Phase;
 use crate::Port;
+use crate::SCLK;
+use crate::SDIO;
+use crate::SDO;
 use crate::state::in_data;
 use crate::state::instructing;
 use crate::state::passing;
@@ -25,7 +29,7 @@ use bus_settings::next_address;
 pub fn takes_bit(csb: bool, sclk: bool, sample: u8) -> bool
     ensures { λ r. ⌜ r ≡ (not csb && not (csbOf sample) && not sclk && sclkOf sample) ⌝ }
 {
-    !csb & !bit_at(sample, 0) & !sclk & bit_at(sample, 1)
+    !csb & !bit_at(sample, CSB) & !sclk & bit_at(sample, SCLK)
 }
 
 // The level that a bit of data is read from.
@@ -33,9 +37,9 @@ pub(crate) fn data_line(read: bool, sdo_active: bool, sample: u8) -> bool
     ensures { λ r. ⌜ r ≡ cond (read && «sdo_active») (sdoOf sample) (sdioOf sample) ⌝ }
 {
     if read & sdo_active {
-        bit_at(sample, 3)
+        bit_at(sample, SDO)
     } else {
-        bit_at(sample, 2)
+        bit_at(sample, SDIO)
     }
 }
 
@@ -183,8 +187,8 @@ impl Port {
     {
         let csb_before = self.csb;
         let takes_bit = takes_bit(self.csb, self.sclk, sample);
-        self.csb = bit_at(sample, 0);
-        self.sclk = bit_at(sample, 1);
+        self.csb = bit_at(sample, CSB);
+        self.sclk = bit_at(sample, SCLK);
         let settings = self.settings;
         if csb_before & !self.csb & (self.left == 0) {
             return starting(self.sclk, settings);
@@ -196,7 +200,7 @@ impl Port {
                     return self;
                 }
                 Phase::Instruction => {
-                    return self.with_instruction_bit(chip, bit_at(sample, 2));
+                    return self.with_instruction_bit(chip, bit_at(sample, SDIO));
                 }
                 Phase::Data => {
                     let in_use = self.in_use;

@@ -11,6 +11,8 @@ use crate::scan::take_each;
 use base_chip::Chip;
 use bus_session::Phase;
 use bus_session::Port;
+use bus_session::SDIO;
+use bus_session::SDO;
 
 // How many bits come before the last of a piece: seven in data, and in no other phase.
 pub fn last_of(phase: Phase) -> u8
@@ -30,9 +32,9 @@ pub fn line_of(chip: Chip, port: Port) -> u8
     let phase = port.phase;
     let in_use = port.in_use;
     if (last_of(phase) == 7) & port.read & in_use.counting(chip).sdo_active {
-        3
+        SDO
     } else {
-        2
+        SDIO
     }
 }
 

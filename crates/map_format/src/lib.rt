@@ -80,6 +80,9 @@ pub fn head(map: &[u8]) -> usize
     head_size(version(map))
 }
 
+// The bit of the flags that asks for a transfer when the select rises.
+pub const RISE_FLAG: u8 = 0;
+
 // The flags of the map; version 1 has none.
 pub fn flags(map: &[u8]) -> u8
     ensures { λ r. ⌜ r ≡ flagsOf (now (map .entry)) ⌝ }

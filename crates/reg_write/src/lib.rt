@@ -19,10 +19,17 @@ pub use rise::end_frame;
 pub use rise::moves_at_rise;
 pub use rule::effect_of;
 
-// The numbers of three effects: the active byte of a register was written; its buffer byte was; a soft reset.
+// The numbers of the effects: none; the active byte of a register was written; its buffer byte was; a control register; a transfer; a
+// soft reset.
+const EFFECT_NONE: u8 = 0;
+
 const EFFECT_ACTIVE: u8 = 1;
 
 const EFFECT_BUFFER: u8 = 2;
+
+const EFFECT_CONTROL: u8 = 3;
+
+const EFFECT_TRANSFER: u8 = 4;
 
 const EFFECT_RESET: u8 = 5;
 
@@ -91,7 +98,7 @@ fn untaken(byte: u8) -> Written
 {
     Written {
         byte: byte,
-        effect: 0,
+        effect: EFFECT_NONE,
         moved: 0,
     }
 }
@@ -195,8 +202,8 @@ pub fn answer(chip: Chip, settings: Settings, address: u16, v: u8, effect: Effec
             effect: one_of(buffered, EFFECT_BUFFER, EFFECT_ACTIVE),
             moved: moved,
         },
-        Effect::Control => control_answer(chip, settings, address, v, 3),
-        Effect::Transfer => control_answer(chip, settings, address, v, 4),
+        Effect::Control => control_answer(chip, settings, address, v, EFFECT_CONTROL),
+        Effect::Transfer => control_answer(chip, settings, address, v, EFFECT_TRANSFER),
         Effect::Reset => control_answer(chip, settings, address, v, EFFECT_RESET),
         Effect::Ignored => untaken(settings.reading(chip, address)),
     }

@@ -7,6 +7,7 @@ use crate::EFFECT_RESET;
 use base_bits::bit_at;
 use base_chip::Chip;
 use base_chip::is_newer;
+use map_format::RISE_FLAG;
 use map_format::flags;
 use reg_banks::transfer;
 
@@ -14,7 +15,7 @@ use reg_banks::transfer;
 pub fn moves_at_rise(chip: Chip, map: &[u8]) -> bool
     ensures { λ r. ⌜ r ≡ movesAtRise chip (now (map .entry)) ⌝ }
 {
-    is_newer(chip) & bit_at(flags(map), 0)
+    is_newer(chip) & bit_at(flags(map), RISE_FLAG)
 }
 
 // Whether the session is armed after a write with the effect of this number, by whether the end of a frame can move bytes.

@@ -24,6 +24,13 @@ use base_numbers::DONE;
 use base_numbers::SHORT_OUT;
 use bus_settings::next_address;
 
+// The bits of a settings number.
+pub const ORDER_LSB_FIRST: u8 = 0;
+
+pub const ORDER_ASCENDING: u8 = 1;
+
+pub const ORDER_SINGLE_INSTRUCTION: u8 = 2;
+
 // An order as it is given, with its data lent beside it: a direction, a settings number, a start address and a count.
 pub struct Order {
     pub direction: u64,
@@ -39,9 +46,9 @@ fn goes_up(chip: Chip, order: Order) -> bool
 {
     let s = order.settings as u8;
     if is_newer(chip) {
-        bit_at(s, 1)
+        bit_at(s, ORDER_ASCENDING)
     } else {
-        bit_at(s, 0)
+        bit_at(s, ORDER_LSB_FIRST)
     }
 }
 
@@ -50,7 +57,7 @@ fn is_single(chip: Chip, order: Order) -> bool
     requires { ⌜ order .settings ≤ 7 ⌝ }
     ensures { λ r. ⌜ r ≡ isSingle chip (withData order []) ⌝ }
 {
-    is_newer(chip) & bit_at(order.settings as u8, 2)
+    is_newer(chip) & bit_at(order.settings as u8, ORDER_SINGLE_INSTRUCTION)
 }
 
 // The highest settings number that names settings of a chip.

@@ -16,6 +16,9 @@ use base_chip::Chip;
 use base_numbers::DONE;
 pub use older::send_older;
 pub use samples::put_samples;
+use send_order::ORDER_ASCENDING;
+use send_order::ORDER_LSB_FIRST;
+use send_order::ORDER_SINGLE_INSTRUCTION;
 use send_order::Order;
 use send_order::number_of;
 
@@ -41,9 +44,9 @@ fn run_of(order: Order) -> RunSettings
     let s = order.settings as u8;
     RunSettings {
         read: order.direction == 1,
-        lsb_first: bit_at(s, 0),
-        ascending: bit_at(s, 1),
-        single_instruction: bit_at(s, 2),
+        lsb_first: bit_at(s, ORDER_LSB_FIRST),
+        ascending: bit_at(s, ORDER_ASCENDING),
+        single_instruction: bit_at(s, ORDER_SINGLE_INSTRUCTION),
     }
 }
 

@@ -12,7 +12,9 @@ use crate::Turn;
 use crate::take::take_within;
 use base_bits::bit_at;
 use base_chip::Chip;
+use bus_session::CSB;
 use bus_session::Port;
+use bus_session::SCLK;
 use bus_session::Session;
 use bus_session::is_data;
 use bus_session::takes_bit;
@@ -47,8 +49,8 @@ pub fn mid_read(port: Port) -> bool
 fn only_levels(csb: bool, sclk: bool, seen: u8) -> bool
     ensures { λ r. ⌜ r ≡ onlyLevels csb sclk seen ⌝ }
 {
-    let high = bit_at(seen, 0);
-    (csb & high) | (!csb & (!high & (sclk | !bit_at(seen, 1))))
+    let high = bit_at(seen, CSB);
+    (csb & high) | (!csb & (!high & (sclk | !bit_at(seen, SCLK))))
 }
 
 // The chip with another last level of SCLK.
@@ -166,7 +168,7 @@ pub fn step_member(
     let seen = sees(selects, lines, chip);
     if only_levels(member.session[1] == 1, member.session[2] == 1, seen) {
         return Stepped {
-            member: with_clock(member, bit_at(seen, 1)),
+            member: with_clock(member, bit_at(seen, SCLK)),
             turn: next_turn(turn, chips, turn.at),
         };
     }

@@ -7,6 +7,7 @@ ghost use Rattle.base_bits.specs.Bits.{bitAt};
 ghost use Rattle.several_chips.specs.Samples.{allGood, samplesIn};
 ghost use Rattle.several_chips.specs.Numbers.{severalSamplesGood};
 use base_bits::bit_at;
+use bus_session::CSB;
 
 // The bytes of 65,536 samples.
 const MOST_BYTES: usize = 2 * 65536;
@@ -23,7 +24,7 @@ fn least_selects(chips: usize) -> u8
 fn lines_good(lines: u8) -> bool
     ensures { λ r. ⌜ r ≡ (leb lines 15 && not (bitAt lines 0)) ⌝ }
 {
-    (lines <= 15) & !bit_at(lines, 0)
+    (lines <= 15) & !bit_at(lines, CSB)
 }
 
 // Whether each sample of so many chips is good.

@@ -2,6 +2,8 @@
 ghost use mathlib.Core.Path.{_≡_};
 ghost use Rattle.text_recording.specs.Glance.{fallsAt, risesAt, nothingSeen, seenOf, goodBefore};
 use base_bits::bit_at;
+use bus_session::CSB;
+use bus_session::SCLK;
 
 // What has been seen of a recording: its last sample; whether the select has fallen; and whether a clock edge has come with the
 // select low, after which nothing more is looked for.
@@ -26,14 +28,14 @@ pub fn nothing_seen() -> Seen
 fn falls(last: u8, x: u8) -> bool
     ensures { λ r. ⌜ r ≡ fallsAt last x ⌝ }
 {
-    bit_at(last, 0) & !bit_at(x, 0)
+    bit_at(last, CSB) & !bit_at(x, CSB)
 }
 
 // Whether SCLK rises from one sample to the next, with CSB low in both.
 fn rises(last: u8, x: u8) -> bool
     ensures { λ r. ⌜ r ≡ risesAt last x ⌝ }
 {
-    !bit_at(last, 0) & !bit_at(x, 0) & !bit_at(last, 1) & bit_at(x, 1)
+    !bit_at(last, CSB) & !bit_at(x, CSB) & !bit_at(last, SCLK) & bit_at(x, SCLK)
 }
 
 // Looks at more samples, up to the first clock edge with the select low.
