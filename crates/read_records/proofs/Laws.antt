@@ -46,6 +46,7 @@ record-size c m b t (Aborted a bits d) = refl
 record-size c m b t Ended = refl
 
 -- so the place after an event that is taken is known without its record
-pub place-after : {c : Chip} {m : List ℕ} {k : Bool} {b : Banks} {ws : List ℕ} {t : Settings} {e : Event} {old : List ℕ} {at : ℕ} {after : Banks} {words new : List ℕ} {took : EventOutcome}
+pub place-after : {c : Chip} {m : List ℕ} {k : Bool} {b : Banks} {ws : List ℕ} {t : Settings} {e : Event} {old : List ℕ} {at : ℕ}
+    {after : Banks} {words new : List ℕ} {took : EventOutcome}
     → EventAfter c m k b ws t e old at after words new took → took .at ≡ at + recordSize * recordsIn e
 place-after {c} {m} {b = b} {t = t} {e} {at = at} a = a .next-place ∙ ap (λ (n : ℕ). at + n) (record-size c m b t e)

@@ -3,5 +3,6 @@ pub mod Counting
 pub mod Laws
 pub mod Running
 mod Steps
+mod Bytes
 mod Loop
 mod Ending

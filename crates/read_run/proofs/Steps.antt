@@ -23,7 +23,7 @@ use Rattle.bus_session.specs.Event.{bitEvent, endEvent, eventOf}
 use Rattle.bus_session.proofs.Form.{Form, rests, instructs, has-data, stalls, passes, sound-form}
 use Rattle.bus_trace.specs.Progress.{lastOf, sourceLine}
 use Rattle.bus_trace.proofs.Progress.{on-line}
-use Rattle.read_run.specs.Phased.{phaseOfLast, phased}
+use Rattle.read_run.specs.ScanPort.{phaseOfLast}
 use Rattle.read_run.specs.Reach.{reaches}
 
 -- an instruction starts
@@ -204,12 +204,28 @@ counted-line (Older part top) true u = each (λ (n : ℕ). n ≡ 2) (u .«sdo_ac
     (λ e. refl)
 counted-line (Older part top) false u = refl
 
+-- as the code finds it, in data
+pub data-line : (c : Chip) (r : Bool) (u : InUse) {newer : Bool} {line : ℕ} → newer ≡ isNewer c → line ≡ cond ((r && u .«sdo_active») && newer) 3 2 → line
+    ≡ cond (r && counting c u .«sdo_active») 3 2
+data-line c r u en el = el ∙ ap (λ (b : Bool). cond {A = ℕ} ((r && u .«sdo_active») && b) 3 2) en ∙ counted-line c r u
+
 line-form : {c : Chip} {t : Port} → Form c t → cond ((t .read && t .«in_use» .«sdo_active») && isNewer c) 3 2 ≡ sourceLine c t
 line-form (rests k t) = refl
 line-form (instructs k n v t u h g) = refl
 line-form {c} (has-data k n v a r l t u h g f d) = counted-line c r u
 line-form {c} (stalls k a r l t u f e d) = counted-line c r u
 line-form (passes k t e) = refl
+
+-- at rest, with the select high
+rest-form : {c : Chip} {t : Port} → Form c t → t .csb ≡ true → eqb (t .left) 0 ≡ true → sourceLine c t ≡ 2
+rest-form (rests k t) up none = refl
+rest-form (instructs k n v t u h g) up none = refl
+rest-form (has-data k n v a r l t u h g f d) up none = absurd (false≢true up)
+rest-form (stalls k a r l t u f e d) up none = absurd (false≢true (ap (λ (j : ℕ). isCounted j) (sym (eqb-true l 0 none)) ∙ e))
+rest-form (passes k t e) up none = refl
+
+pub rest-line : (c : Chip) (t : Port) → soundPort c t ≡ true → t .csb ≡ true → eqb (t .left) 0 ≡ true → sourceLine c t ≡ 2
+rest-line c t f = rest-form (sound-form c t f)
 
 pub line-sound : (c : Chip) (t : Port) → soundPort c t ≡ true → cond ((t .read && t .«in_use» .«sdo_active») && isNewer c) 3 2 ≡ sourceLine c t
 line-sound c t f = line-form (sound-form c t f)
@@ -226,7 +242,7 @@ phase-by p e = ap phaseOfLast e ∙ phase-back p
 pub sized-by : (p : Phase) {last : ℕ} → last ≡ lastOf p → last ≡ lastOf (phaseOfLast last)
 sized-by p e = e ∙ sym (ap lastOf (phase-by p e))
 
-pub phased-by : (t : Port) {last : ℕ} → last ≡ lastOf (t .phase) → phased t last ≡ t
+pub phased-by : (t : Port) {last : ℕ} → last ≡ lastOf (t .phase) → withPhase t (phaseOfLast last) ≡ t
 phased-by t e = ap (withPhase t) (phase-by (t .phase) e)
 
 pub data-by-last : (last : ℕ) → isData (phaseOfLast last) ≡ eqb last 7

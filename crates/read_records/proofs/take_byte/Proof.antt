@@ -39,19 +39,17 @@ touch-written-requires c κs =
 
 put-write-requires : tie.Need-put-write-requires
 put-write-requires c κs =
-    room-for (c .before .before .before .before .before .before .before .before .before .before .before .before .before .before .before .before .before .before .pre .0) refl
+    let w = c .before .before .before .before .before .before .before .before .before in
+    room-for (w .before .before .before .before .before .before .before .before .before .pre .0) refl
 
 armed-on-requires : tie.Need-armed-on-requires
 armed-on-requires c κs = search needs
 
 add-t35 : tie.Need-add-t35
 add-t35 c =
-    omega (
-      arith,
-      room-for
-          (c .before .before .before .before .before .before .before .before .before .before .before .before .before .before .before .before .before .before .before .before .before .before .pre .0) refl,
-      c .before .before .before .before .before .before .before .before .before .before .before .before .before .before .before .before .before .before .before .before .before .before .good,
-    )
+    let w = c .before .before .before .before .before .before .before .before .before .before .before in
+    let start = w .before .before .before .before .before .before .before .before .before .before .before in
+    omega (arith, room-for (start .pre .0) refl, start .good)
 
 same-length-4 : tie.Need-same-length-4
 same-length-4 c = search needs
@@ -68,9 +66,8 @@ same-length-7 c = search needs
 returns-2 : tie.Need-returns-2
 returns-2 c =
     let w = c .before .before .before .before .before .before .before .before .before .before .before .before .before in
-    took-write (c .before .before .before .before .before .before .before .before .before .before .before .before .before .before .before .before .if1 .left)
-    (w .write .ensures) (c .before .before .before .before .before .before .before .touch-written .ensures) (c .before .before .before .put-write .ensures)
-    (c .before .before .before .before .before .before .before .before .before .before .before .before .before .before .before .before .before .before .before .before .before .before .pre .1) (c .armed-on .ensures)
+    took-write (w .before .before .before .if1 .left) (w .write .ensures) (c .before .before .before .before .before .before .before .touch-written .ensures)
+    (c .before .before .before .put-write .ensures) (w .before .before .before .before .before .before .before .before .before .pre .1) (c .armed-on .ensures)
 
 pub take-byte-spec : {M : Type 1} → statement M
 take-byte-spec =

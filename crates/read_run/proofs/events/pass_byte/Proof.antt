@@ -3,13 +3,13 @@ use borrow.Author.Needs.{needs}
 use mathlib.Core.Path.{refl, sym, _∙_}
 use mathlib.Core.Bool.{false≢true}
 use Rattle.read_records.proofs.Laws.{place-after}
-use Rattle.read_run.proofs.pass_byte.Statement.{statement}
-use Rattle.read_run.proofs.pass_byte.Tie as tie
+use Rattle.read_run.proofs.events.pass_byte.Statement.{statement}
+use Rattle.read_run.proofs.events.pass_byte.Tie as tie
 
 take-byte-requires : tie.Need-take-byte-requires
 take-byte-requires c κs =
-    let pre = c .before .before .before .before .before .before .before .before .before .before .pre in
-    (pre .0 .taking (c .before .before .before .before .if1 .taken), pre .1)
+    let pre = c .before .before .before .before .before .before .before .before .before .before .before .pre in
+    (pre .0 .taking (c .before .before .before .before .before .if1 .taken), pre .1)
 
 same-length : tie.Need-same-length
 same-length c = search needs
@@ -28,11 +28,11 @@ returns c =
     let t = c .before .before .before .before .before .before .before .before .take-byte .ensures in
     record { next-place = place-after t; taken = λ p. t }
 
-add-t24 : tie.Need-add-t24
-add-t24 c = search needs
+add-t21 : tie.Need-add-t21
+add-t21 c = search needs
 
 returns-2 : tie.Need-returns-2
-returns-2 c = record { next-place = refl; taken = λ p. absurd (false≢true (sym (c .if1 .left) ∙ p)) }
+returns-2 c = record { next-place = refl; taken = λ p. absurd (false≢true (sym (c .before .if1 .left) ∙ p)) }
 
 pub pass-byte-spec : {M : Type 1} → statement M
 pass-byte-spec =
@@ -44,5 +44,5 @@ pass-byte-spec =
     same-length-3
     same-length-4
     returns
-    add-t24
+    add-t21
     returns-2)

@@ -3,8 +3,8 @@ use mathlib.Core.Path.{ap, sym}
 use Rattle.base_chip.specs.declared.Chip.{Chip}
 use Rattle.read_run.specs.Reach.{reaches}
 use borrow.Author.Needs.{needs}
-use Rattle.read_run.proofs.reaches.Statement.{statement}
-use Rattle.read_run.proofs.reaches.Tie as tie
+use Rattle.read_run.proofs.scanning.reaches.Statement.{statement}
+use Rattle.read_run.proofs.scanning.reaches.Tie as tie
 
 enum-told : tie.Need-enum-told
 enum-told c = search needs

@@ -2,8 +2,8 @@
 use mathlib.Core.Path.{refl}
 use borrow.Author.Tests.{eq-eqb, ne-eqb}
 use Rattle.base_bits.proofs.Cases.{yes, no}
-use Rattle.read_run.proofs.phase_of.Statement.{statement}
-use Rattle.read_run.proofs.phase_of.Tie as tie
+use Rattle.read_run.proofs.scanning.phase_of.Statement.{statement}
+use Rattle.read_run.proofs.scanning.phase_of.Tie as tie
 
 returns : tie.Need-returns
 returns c = yes _ (eq-eqb _ _ (c .if1 .taken)) refl
