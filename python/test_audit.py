@@ -12,6 +12,8 @@ import tempfile
 import unittest
 from pathlib import Path
 
+from counted import runner
+
 ROOT = Path(__file__).resolve().parent.parent
 TOOL = str(ROOT / 'tools/audit')
 loader = importlib.machinery.SourceFileLoader('audit', TOOL)
@@ -51,12 +53,6 @@ def copied(folder):
         (Path(folder) / name).symlink_to(ROOT / name)
     (Path(folder) / 'tools').mkdir()
     return shutil.copy(TOOL, Path(folder) / 'tools')
-
-
-class Lines(unittest.TextTestResult):
-    def addSuccess(self, test):
-        super().addSuccess(test)
-        print(f'ok audit: {test.shortDescription()}', flush=True)
 
 
 class Audit(unittest.TestCase):
@@ -126,4 +122,4 @@ class Audit(unittest.TestCase):
 
 
 if __name__ == '__main__':
-    unittest.main(testRunner=unittest.TextTestRunner(verbosity=0, resultclass=Lines))
+    unittest.main(testRunner=runner('audit'))

@@ -7,8 +7,8 @@ use couplingnut_tests::generate::older::maps::good_older_map;
 use couplingnut_tests::generate::random::Random;
 use second::older::{Older, Part};
 use second::sender::Order;
+use second::session::CSB;
 
-const CSB: u8 = 1;
 /// A run may descend from here by as many registers as the longest frame has
 /// and stay clear of the control registers.
 const FIRST_START: usize = 0x0020;

@@ -57,39 +57,7 @@ impl Space {
 
 #[cfg(benchmark_library)]
 #[link(name = "host_benchmark", kind = "static")]
-extern "C" {
-    fn benchmark_read(
-        map: *const u8,
-        map_length: usize,
-        active: *mut u8,
-        active_length: usize,
-        buffer: *mut u8,
-        buffer_length: usize,
-        words: *mut u64,
-        words_count: usize,
-        samples: *const u8,
-        samples_length: usize,
-        records: *mut u8,
-        records_length: usize,
-        count: *mut u64,
-    ) -> u32;
-    fn benchmark_read_older(
-        top: u64,
-        map: *const u8,
-        map_length: usize,
-        active: *mut u8,
-        active_length: usize,
-        buffer: *mut u8,
-        buffer_length: usize,
-        words: *mut u64,
-        words_count: usize,
-        samples: *const u8,
-        samples_length: usize,
-        records: *mut u8,
-        records_length: usize,
-        count: *mut u64,
-    ) -> u32;
-}
+extern "C" {}
 
 /// Opens and reads from the opened session.
 pub fn read_by(side: Side, map: &[u8], samples: &[u8], space: &mut Space) {
@@ -102,25 +70,10 @@ pub fn read_by(side: Side, map: &[u8], samples: &[u8], space: &mut Space) {
 #[cfg(benchmark_library)]
 fn proved_read(map: &[u8], samples: &[u8], space: &mut Space) {
     let Space { active, buffer, words, out, count, .. } = space;
-    // SAFETY: the pointers and lengths are those of slices, and what is
-    // written is borrowed for this call alone.
-    space.number = unsafe {
-        benchmark_read(
-            map.as_ptr(),
-            map.len(),
-            active.as_mut_ptr(),
-            active.len(),
-            buffer.as_mut_ptr(),
-            buffer.len(),
-            words.as_mut_ptr(),
-            words.len(),
-            samples.as_ptr(),
-            samples.len(),
-            out.as_mut_ptr(),
-            out.len(),
-            count,
-        )
-    };
+    space.number = couplingnut_tests::call_c!(benchmark_read(
+        map: &[u8], active: &mut [u8], buffer: &mut [u8], words: &mut [u64],
+        samples: &[u8], out: &mut [u8], count: &mut u64
+    ));
 }
 
 /// Stands in where the library is missing.
@@ -154,25 +107,10 @@ pub fn read_older_by(side: Side, top: u64, map: &[u8], samples: &[u8], space: &m
 #[cfg(benchmark_library)]
 fn proved_read_older(top: u64, map: &[u8], samples: &[u8], space: &mut Space) {
     let Space { active, buffer, words, out, count, .. } = space;
-    // SAFETY: as in `proved_read`.
-    space.number = unsafe {
-        benchmark_read_older(
-            top,
-            map.as_ptr(),
-            map.len(),
-            active.as_mut_ptr(),
-            active.len(),
-            buffer.as_mut_ptr(),
-            buffer.len(),
-            words.as_mut_ptr(),
-            words.len(),
-            samples.as_ptr(),
-            samples.len(),
-            out.as_mut_ptr(),
-            out.len(),
-            count,
-        )
-    };
+    space.number = couplingnut_tests::call_c!(benchmark_read_older(
+        top: u64, map: &[u8], active: &mut [u8], buffer: &mut [u8], words: &mut [u64],
+        samples: &[u8], out: &mut [u8], count: &mut u64
+    ));
 }
 
 /// Stands in where the library is missing.

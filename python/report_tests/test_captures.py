@@ -3,13 +3,13 @@ import os
 import random
 import shutil
 import subprocess
-import tempfile
 import unittest
 
 from couplingnut_report import captures, ends
 from couplingnut_report.lines import lines_of, samples_of
 from couplingnut_report.reading import read
 from report_tests import made, open_day
+from report_tests.folder import Folder
 
 SIGROK = shutil.which('sigrok-cli')
 WITHOUT = 'sigrok-cli is not installed'
@@ -29,17 +29,7 @@ def told(capture):
     return [str(event.record) for event in reading.events()], reading.active, reading.buffer
 
 
-class Files(unittest.TestCase):
-    def setUp(self):
-        self.folder = tempfile.TemporaryDirectory()
-        self.addCleanup(self.folder.cleanup)
-
-    def put(self, name, content):
-        path = os.path.join(self.folder.name, name)
-        with open(path, 'wb') as out:
-            out.write(content if isinstance(content, bytes) else content.encode())
-        return path
-
+class Files(Folder, unittest.TestCase):
     def assert_end(self, kind, words, path, **named):
         with self.assertRaises(kind) as caught:
             captures.read_capture(path, wish(**named))
@@ -112,7 +102,7 @@ class Files(unittest.TestCase):
     def test_bad_files(self):
         """files that are no captures are told in a sentence"""
         whole = made.session_file(SET_UP, made.Channels(['CSB', 'SCLK', 'SDIO', 'SDO'], 1))
-        self.assert_end(ends.Unreadable, ['No such file'], os.path.join(self.folder.name, 'none.sr'))
+        self.assert_end(ends.Unreadable, ['No such file'], self.place('none.sr'))
         self.assert_end(ends.Unreadable, ['Is a directory'], self.folder.name)
         self.assert_end(ends.Unreadable, ['no whole capture'], self.put('other.sr', made.session_file(b'', made.Channels([], 1)).replace(
             b'metadata', b'metadatb')))
@@ -149,7 +139,7 @@ class Files(unittest.TestCase):
     def test_of_sigrok(self):
         """a .sr file that sigrok-cli made"""
         raw = self.put('raw', SET_UP)
-        path = os.path.join(self.folder.name, 'made.sr')
+        path = self.place('made.sr')
         form, lines = 'binary:numchannels=8:samplerate=2000000', '0=CSB,1=SCLK,2=SDIO,3=SDO'
         subprocess.run(['sigrok-cli', '-I', form, '-i', raw, '-C', lines, '-o', path], check=True)
         capture = captures.read_capture(path, wish())

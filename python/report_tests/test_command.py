@@ -6,11 +6,11 @@ import select
 import shutil
 import subprocess
 import sys
-import tempfile
 import time
 import unittest
 
 from report_tests import made
+from report_tests.folder import Folder
 from report_tests.made import RESET, TRANSFER, cut, read, recording, write
 
 COMMAND = os.path.join(made.ROOT, 'tools', 'couplingnut')
@@ -19,22 +19,13 @@ GOOD = recording(write(*RESET), write(0x0010, 0x2D), write(0x0018, 0x5A), write(
 BROKEN = recording(write(0x0018, 0x5A), cut(write(0x0010, 0x2D), 21), write(*TRANSFER))
 
 
-class Files(unittest.TestCase):
+class Files(Folder, unittest.TestCase):
     """A folder with a unit's table and recordings."""
 
     def setUp(self):
-        self.folder = tempfile.TemporaryDirectory()
-        self.addCleanup(self.folder.cleanup)
+        super().setUp()
         self.table = self.put('CT-1.txt', made.TABLE)
         self.good, self.broken = self.put('good.samples', GOOD), self.put('broken.samples', BROKEN)
-
-    def place(self, *names):
-        return os.path.join(self.folder.name, *names)
-
-    def put(self, name, content):
-        with open(self.place(name), 'wb') as out:
-            out.write(content if isinstance(content, bytes) else content.encode())
-        return self.place(name)
 
     def run_it(self, *words, **given):
         ended = subprocess.run([sys.executable, COMMAND, *words], capture_output=True, timeout=120, check=False, **given)

@@ -3,12 +3,12 @@ import os
 import re
 import shutil
 import subprocess
-import tempfile
 import unittest
 
 from couplingnut_report.captures import Wish, read_capture
 from couplingnut_report.reading import CUT, READ, WRITE, read
 from report_tests import made, open_day, stand_in
+from report_tests.folder import Folder
 from report_tests.made import RESET, TRANSFER, cut, older, recording, write
 
 DECODERS = os.path.join(made.ROOT, 'sigrok')
@@ -37,18 +37,8 @@ def annotations(event, unit):
                      'transfer: what waited is in force', 'soft reset: all defaults in force'][record.byte5]]
 
 
-class Shown:
+class Shown(Folder):
     """What the decoder shows, whoever runs it."""
-
-    def setUp(self):
-        self.folder = tempfile.TemporaryDirectory()
-        self.addCleanup(self.folder.cleanup)
-
-    def put(self, name, content):
-        path = os.path.join(self.folder.name, name)
-        with open(path, 'wb') as out:
-            out.write(content if isinstance(content, bytes) else content.encode())
-        return path
 
     def assert_records(self, capture, table_text):
         """That the annotations, but for commands, are those of the records, each up to its record's sample."""
@@ -96,7 +86,7 @@ class Shown:
     def test_bad_options(self):
         """without a good map the decoder says so, and nothing else"""
         capture = self.put('kinds.sr', made.session_file(KINDS, made.Channels(NAMES, 1)))
-        for path, words in (('', 'name the unit'), (os.path.join(self.folder.name, 'none'), 'No such file'),
+        for path, words in (('', 'name the unit'), (self.place('none'), 'No such file'),
                             (self.put('bad.txt', 'red'), 'line 1'), (self.put('short.txt', made.TABLE[:200]), 'missing')):
             shown = self.shown(capture, path)
             self.assertEqual((len(shown), words in shown[0][2]), (1, True), shown)

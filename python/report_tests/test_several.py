@@ -2,7 +2,6 @@
 import json
 import os
 import random
-import tempfile
 import unittest
 
 from couplingnut_report import captures, ends, report, several
@@ -13,6 +12,7 @@ from couplingnut_report.reading import Low, read as read_alone, rises_before
 from couplingnut_report.site import page_names
 from couplingnut_report.textpage import text_page
 from report_tests import made, test_command
+from report_tests.folder import Folder
 from report_tests.made import RESET, TRANSFER, cut, lowered, read, shared, write
 from report_tests.test_pages import checked, squeezed
 
@@ -44,13 +44,8 @@ def traffic(seed, count, frames=30):
     return samples
 
 
-class Lines(unittest.TestCase):
+class Lines(Folder, unittest.TestCase):
     """What needs no call for several chips."""
-
-    def setUp(self):
-        folder = tempfile.TemporaryDirectory()
-        self.addCleanup(folder.cleanup)
-        self.folder = folder.name
 
     def test_samples(self):
         """two bytes a sample: the selects, absent ones high, and the lines that the chips share"""
@@ -81,9 +76,8 @@ class Lines(unittest.TestCase):
             samples, lines = traffic(7, count, 6), made.selects(count)
             names = [name for name in lines if name != 'SDO' or wires == 4] + ['x', 'y']
             random.Random(count).shuffle(names)
-            path = os.path.join(self.folder, 'several.sr')
-            with open(path, 'wb') as out:
-                out.write(made.session_file(samples, made.Channels(names, -(-len(names) // 8), lines=lines), piece=100))
+            channels = made.Channels(names, -(-len(names) // 8), lines=lines)
+            path = self.put('several.sr', made.session_file(samples, channels, piece=100))
             selects = tuple(f'CS{chip}' for chip in range(count))
             found = captures.read_captures(path, captures.Wish({}, selects=selects))
             mask = 0xFF if wires == 4 else 0xF7

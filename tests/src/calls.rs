@@ -1,7 +1,7 @@
 //! The reader's calls of the library against the second implementation: all
 //! that a call answers and leaves is compared, and a difference is kept.
 
-use crate::environment::{differ, Running};
+use crate::environment::Running;
 use crate::generate::maps::count_of;
 use crate::guarded::{Against, Guarded};
 use crate::layout::{from_bytes, to_bytes, SessionBytes, SESSION_SIZE};
@@ -276,23 +276,20 @@ impl Tally {
 
 /// A list of compared calls.
 pub struct Comparison {
-    /// The test, by its path.
-    subject: &'static str,
-    seed: u64,
-    memory: Memory,
     running: Running,
+    memory: Memory,
     pub tally: Tally,
 }
 
 impl Comparison {
-    pub fn new(subject: &'static str) -> Self {
-        let running = Running::new(subject);
-        Comparison { subject, seed: 0, memory: Memory::default(), running, tally: Tally::default() }
+    /// Of the test with this path.
+    pub fn new(test: &'static str) -> Self {
+        let (memory, tally) = (Memory::default(), Tally::default());
+        Comparison { running: Running::new(test), memory, tally }
     }
 
     /// Begins the case of a seed.
     pub fn begin(&mut self, seed: u64, against: Against) {
-        self.seed = seed;
         self.memory.against = against;
         self.running.begin(seed);
     }
@@ -323,7 +320,7 @@ impl Comparison {
             "{call:?} gave {}, expected {}; what differs: {}; memory against the {:?}",
             found.number,
             expected.number,
-            differing(found, expected).join(", "),
+            differing(found, expected),
             self.memory.against
         );
         let listing = format!(
@@ -332,7 +329,7 @@ impl Comparison {
             found.listing(),
             expected.listing()
         );
-        differ(self.subject, self.seed, &told, &listing)
+        self.running.differ(&told, &listing)
     }
 }
 
@@ -348,9 +345,14 @@ fn words_line(words: &[u64]) -> String {
     format!("words:{hex}\n")
 }
 
-/// The names of what differs.
-fn differing(found: &Left, expected: &Left) -> Vec<&'static str> {
-    let parts = [
+/// The names of those parts that differ.
+pub(crate) fn names_of(parts: &[(&str, bool)]) -> String {
+    let other = parts.iter().filter(|(_, differs)| *differs);
+    other.map(|(name, _)| *name).collect::<Vec<_>>().join(", ")
+}
+
+fn differing(found: &Left, expected: &Left) -> String {
+    names_of(&[
         ("number", found.number != expected.number),
         ("count", found.count != expected.count),
         ("taken", found.taken != expected.taken),
@@ -360,6 +362,5 @@ fn differing(found: &Left, expected: &Left) -> Vec<&'static str> {
         ("words", found.words != expected.words),
         ("records", found.records != expected.records),
         ("map or samples", found.inputs_kept != expected.inputs_kept),
-    ];
-    parts.into_iter().filter(|(_, other)| *other).map(|(name, _)| name).collect()
+    ])
 }

@@ -24,23 +24,31 @@ pub fn difference_path(test: &str, purpose: &str) -> PathBuf {
     differences().join(format!("{}-{purpose}.txt", test.replace("::", "-")))
 }
 
-/// While a test runs, a file holds the seed of its present case, for a call that kills
-/// the test.
+/// A test, by its path, and the seed of its present case. While it runs a file holds that
+/// seed, for a call that kills the test.
 pub struct Running {
+    test: &'static str,
+    seed: u64,
     path: PathBuf,
     file: File,
 }
 
 impl Running {
-    pub fn new(test: &str) -> Self {
+    pub fn new(test: &'static str) -> Self {
         let path = difference_path(test, "running");
         let file = File::create(&path).expect("a file for the present seed");
-        Running { path, file }
+        Running { test, seed: 0, path, file }
     }
 
     pub fn begin(&mut self, seed: u64) {
+        self.seed = seed;
         let text = format!("SEED={seed:<20}\n");
         self.file.write_all_at(text.as_bytes(), 0).expect("the present seed can be kept");
+    }
+
+    /// Keeps a difference of the present case, and fails.
+    pub fn differ(&self, told: &str, listing: &str) -> ! {
+        differ(self.test, self.seed, told, listing)
     }
 }
 

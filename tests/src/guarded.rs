@@ -36,6 +36,17 @@ pub enum Against {
     PageBefore,
 }
 
+impl Against {
+    /// The page for the case of a seed: mostly the one after.
+    pub fn of_seed(seed: u64) -> Self {
+        if seed.is_multiple_of(4) {
+            Against::PageBefore
+        } else {
+            Against::PageAfter
+        }
+    }
+}
+
 pub struct Guarded {
     /// The first byte after the page before.
     start: *mut u8,

@@ -2,14 +2,15 @@
 //! counts, session, both banks, the words of touched registers and the whole record
 //! buffer, call by call.
 
-use couplingnut_tests::calls::{Call, Comparison, Given};
+use couplingnut_tests::by_hand::frame;
+use couplingnut_tests::calls::{Call, Comparison, Given, Left};
 use couplingnut_tests::environment::number_from;
-use couplingnut_tests::generate::calls::{Chain, MOST_SAMPLES};
+use couplingnut_tests::generate::calls::{sent_trace, Chain, MOST_SAMPLES};
 use couplingnut_tests::generate::maps::{good_map, simple_map, with_flags};
 use couplingnut_tests::generate::random::Random;
 use couplingnut_tests::generate::sessions::{every_piece, with_every_setting};
-use couplingnut_tests::generate::traces::{clocks, trace};
-use couplingnut_tests::generate::words::any_words;
+use couplingnut_tests::generate::traces::clocks;
+use couplingnut_tests::generate::words::any_banks;
 use couplingnut_tests::guarded::Against;
 use couplingnut_tests::layout::{to_bytes, SESSION_SIZE};
 use second::reader::RECORD;
@@ -20,26 +21,12 @@ const CALLS: u64 = 500_000;
 /// The calls of one list, at most.
 const CHAIN: usize = 40;
 
-/// The page that this case's memory lies against: mostly the one after it.
-fn against(seed: u64) -> Against {
-    match seed % 4 {
-        0 => Against::PageBefore,
-        _ => Against::PageAfter,
-    }
-}
-
 #[test]
 fn lists_of_calls_agree() {
-    let (first, calls) = (number_from("SEED", 0), number_from("CALLS", CALLS));
+    let calls = number_from("CALLS", CALLS);
     assert!(calls > 0, "no call is no test");
     let mut comparison = Comparison::new("calls::lists_of_calls_agree");
-    for seed in first.. {
-        if comparison.tally.calls >= calls {
-            break;
-        }
-        comparison.begin(seed, against(seed));
-        compare_chain(&mut comparison, Chain::new(seed));
-    }
+    compare_chains(&mut comparison, calls, Chain::new, |_| {});
     if calls >= CALLS {
         let tally = &comparison.tally;
         tally.assert_numbers(Call::Open, &[0, 2, 3, 4], 300);
@@ -49,8 +36,32 @@ fn lists_of_calls_agree() {
     }
 }
 
-fn compare_chain(comparison: &mut Comparison, mut chain: Chain) {
-    for _ in 0..CHAIN {
+/// Lists of at least so many calls, from the seed of the environment on. What each done
+/// call left is handed over.
+pub fn compare_chains(
+    comparison: &mut Comparison,
+    calls: u64,
+    chain: fn(u64) -> Chain,
+    mut done: impl FnMut(&Left),
+) {
+    for seed in number_from("SEED", 0).. {
+        if comparison.tally.calls >= calls {
+            break;
+        }
+        comparison.begin(seed, Against::of_seed(seed));
+        compare_chain(comparison, chain(seed), CHAIN, |_, _, left| done(left));
+    }
+}
+
+/// A list of at most so many calls. Each that was done is handed over: which it was, what it
+/// was given, and what it left.
+pub fn compare_chain(
+    comparison: &mut Comparison,
+    mut chain: Chain,
+    most: usize,
+    mut done: impl FnMut(Call, &Given, &Left),
+) {
+    for _ in 0..most {
         if chain.is_over() {
             break;
         }
@@ -58,6 +69,7 @@ fn compare_chain(comparison: &mut Comparison, mut chain: Chain) {
         let left = comparison.call(call, &given);
         // A refused call left the session, the banks and the words that it was given.
         if left.number == 0 {
+            done(call, &given, &left);
             chain.go_on(call, &given, &left);
         }
     }
@@ -75,24 +87,31 @@ fn sessions_in_every_phase_and_setting_are_read_on() {
     let sessions =
         |map| every_piece().into_iter().flat_map(with_every_setting).map(move |s| (map, s));
     for (seed, (map, shape)) in (0..).zip(with_flags.iter().flat_map(sessions)) {
-        comparison.begin(seed, against(seed));
+        comparison.begin(seed, Against::of_seed(seed));
         let mut random = Random::new(seed);
         let session = with_contents(&mut random, shape);
-        let mut given = Given::opened(map);
-        given.session = to_bytes(&session);
-        given.active = random.bytes(24);
-        given.buffer = random.bytes(24);
-        given.words = any_words(&mut random, 24);
-        given.samples = clocks(&mut random, 50);
-        given.records = random.bytes(RECORD * 17);
         assert!(session.is_sound(), "{session:?}");
-        for call in Call::READING {
-            assert_eq!(comparison.call(call, &given).number, 0, "{session:?}");
-        }
+        compare_reading_on(&mut comparison, &mut random, Given::opened(map), &session);
     }
     let (at_rest, in_a_piece) = (32 * 2, 2 * (16 + 8 + 8) * 32 * 16 * 2);
     assert_eq!(comparison.tally.calls, 2 * 2 * (at_rest + in_a_piece));
     comparison.tally.assert_records(6, 100);
+}
+
+/// A byte or two from this sound session on, with any banks and words.
+pub fn compare_reading_on(
+    comparison: &mut Comparison,
+    random: &mut Random,
+    mut given: Given,
+    session: &Session,
+) {
+    given.session = to_bytes(session);
+    (given.active, given.buffer, given.words) = any_banks(random, given.active.len());
+    given.samples = clocks(random, 50);
+    given.records = random.bytes(RECORD * 17);
+    for call in Call::READING {
+        assert_eq!(comparison.call(call, &given).number, 0, "{session:?}");
+    }
 }
 
 /// The session with any value of its bits and, in data, any address, mostly one
@@ -109,31 +128,33 @@ fn with_contents(random: &mut Random, session: Session) -> Session {
     Session { value, address, ..session }
 }
 
-/// 65,536 samples, with as many records as they can have, and one more.
+/// 65,536 samples, and one more.
 #[test]
 fn the_most_samples_are_read_and_one_more_is_refused() {
     let mut comparison =
         Comparison::new("calls::the_most_samples_are_read_and_one_more_is_refused");
     let mut random = Random::new(2);
-    let map = good_map(&mut random, 600);
-    // A cut every three samples, from a session that has a bit already.
-    let cuts: Vec<u8> = [0x01, 0x00, 0x02].into_iter().cycle().take(MOST_SAMPLES + 1).collect();
-    let traffic = trace(&mut random, &map, MOST_SAMPLES + 1, true);
-    for (seed, samples) in (0..).zip([cuts, traffic]) {
-        let mut given = Given::opened(&map);
-        given.session = to_bytes(&Session { levels: 0, bits: 1, ..in_instruction() });
-        given.samples = samples;
-        given.records = random.bytes(RECORD * 22_000);
-        for page in [Against::PageAfter, Against::PageBefore] {
-            comparison.begin(seed, page);
-            compare_longest(&mut comparison, given.clone());
-        }
-    }
+    let given = Given::opened(&good_map(&mut random, 600));
+    compare_most_samples(&mut comparison, &mut random, given);
     assert_eq!(comparison.tally.numbers[Call::Read as usize][..7], [8, 0, 0, 0, 0, 8, 4]);
 }
 
-fn in_instruction() -> Session {
-    Session { phase: Phase::Instruction, ..Session::opened() }
+/// The most samples, with as many records as they can have, and with what a master sends;
+/// each in memory against either page.
+pub fn compare_most_samples(comparison: &mut Comparison, random: &mut Random, given: Given) {
+    // A cut every three samples, from a session that has a bit already.
+    let phase = Phase::Instruction;
+    let begun = Session { levels: 0, phase, bits: 1, ..Session::opened() };
+    let cuts: Vec<u8> = [0x01, 0x00, 0x02].into_iter().cycle().take(MOST_SAMPLES + 1).collect();
+    let traffic = sent_trace(random, given.older, &given.map, MOST_SAMPLES + 1);
+    for (seed, samples) in (0..).zip([cuts, traffic]) {
+        let records = random.bytes(RECORD * 22_000);
+        let longest = Given { session: to_bytes(&begun), samples, records, ..given.clone() };
+        for page in [Against::PageAfter, Against::PageBefore] {
+            comparison.begin(seed, page);
+            compare_longest(comparison, longest.clone());
+        }
+    }
 }
 
 /// One sample too many; then as many as there may be, with room to spare, the
@@ -171,7 +192,8 @@ fn the_printed_case_call_by_call() {
     let opened = comparison.call(Call::Open, &given);
     assert_eq!((opened.number, opened.active[0x000A]), (0, 0x00));
     given.go_on(&opened);
-    given.samples = write_of_3c();
+    // The 51 samples of a streaming write of 0x3C to 0x000A.
+    given.samples = frame("0000 0000 0000 1010 0011 1100");
     given.records = vec![0xEE; 9];
     let read = comparison.call(Call::Read, &given);
     assert_eq!((read.number, read.count), (0, 1));
@@ -182,11 +204,4 @@ fn the_printed_case_call_by_call() {
     // Byte 1 is whole once 33 + 16 samples have been sent.
     let next = comparison.call(Call::NextRecord, &given);
     assert_eq!((next.number, next.count, next.taken), (0, 1, 49));
-}
-
-/// The 51 samples of a streaming write of 0x3C to 0x000A.
-fn write_of_3c() -> Vec<u8> {
-    let bits = "0000 0000 0000 1010 0011 1100".chars().filter(|&c| c != ' ');
-    let clocked = bits.flat_map(|bit| if bit == '1' { [4, 6] } else { [0, 2] });
-    [0].into_iter().chain(clocked).chain([0, 1]).collect()
 }

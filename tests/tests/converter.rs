@@ -2,9 +2,11 @@
 
 use couplingnut_tests::both::{map_test, to_version_1, to_version_2};
 use couplingnut_tests::generate::maps::{
-    count, entries_of, flagged_map_of, good_map, map_of, set_entry, simple_map, with_flags, Damage,
+    count, entries_of, flagged_map_of, good_map, in_each_version, map_of, maps_near, set_entry,
+    simple_map, with_flags, Damage,
 };
 use couplingnut_tests::generate::random::Random;
+use couplingnut_tests::made::{held, made_in};
 use second::Answer;
 
 /// A call of the converter.
@@ -15,21 +17,9 @@ const BOTH: [Convert; 2] = [to_version_1, to_version_2];
 /// More than any map has.
 const ROOMY: usize = 24_582 + 7;
 
-/// What the call makes in so much room, or the number that refuses it. Whatever
-/// it does not make stays as it was.
+/// What the call makes in so much room, or the number that refuses it.
 fn converted(convert: Convert, map: &[u8], room: usize) -> Result<Vec<u8>, u8> {
-    let before: Vec<u8> = (0..room).map(|i| (i % 251) as u8 ^ 0xC3).collect();
-    let mut out = before.clone();
-    let Answer { number, count } = convert(map, &mut out);
-    assert_eq!(out[count..], before[count..], "the rest is unchanged");
-    out.truncate(count);
-    match number {
-        0 => Ok(out),
-        _ => {
-            assert_eq!(count, 0, "a refusal returns length 0");
-            Err(number)
-        }
-    }
+    made_in(&held(room), |out| convert(map, out))
 }
 
 #[test]
@@ -159,21 +149,8 @@ fn damaged_maps_are_not_converted() {
 /// length is cut or drawn out: what the map test refuses isn't converted.
 #[test]
 fn the_converter_looks_at_every_byte_and_length() {
-    let old = simple_map(17);
-    for map in [old.clone(), with_flags(&old, 0), with_flags(&old, 1)] {
-        for at in 0..map.len() {
-            for value in 0..=255 {
-                let mut changed = map.clone();
-                changed[at] = value;
-                compare_with_map_test(&changed);
-            }
-        }
-        for length in 0..map.len() {
-            compare_with_map_test(&map[..length]);
-        }
-        for more in 1..=4 {
-            compare_with_map_test(&[&map[..], &[0; 4][..more]].concat());
-        }
+    for map in in_each_version(&simple_map(17)) {
+        maps_near(&map).for_each(|near| compare_with_map_test(&near));
     }
 }
 

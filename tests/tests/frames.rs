@@ -4,13 +4,12 @@ use std::collections::BTreeMap;
 
 use couplingnut_tests::both::{fewest_frames, send_setup, try_fewest_frames};
 use couplingnut_tests::chip::{settings_of, Chip};
-use couplingnut_tests::environment::{differ, number_from};
 use couplingnut_tests::generate::frames::{any_frames, good_addresses, needed, Frames, CONTROLS};
 use couplingnut_tests::generate::maps::good_map;
 use couplingnut_tests::generate::random::Random;
 use couplingnut_tests::generate::setups::{list_of, orders_of, Listed};
-use couplingnut_tests::library;
-use second::Answer;
+use couplingnut_tests::made::{self, assert_agreed, held};
+use couplingnut_tests::tally::assert_numbers;
 
 const LISTS: u64 = 60_000;
 
@@ -21,20 +20,8 @@ const DESCENDING: u64 = 0;
 const ASCENDING: u64 = 1;
 
 /// The bytes that the call makes in so much room, or the number that refuses it.
-/// Whatever it does not make stays as it was.
 fn made_in(ascending: u64, addresses: &[u16], bytes: &[u8], room: usize) -> Result<Vec<u8>, u8> {
-    let before: Vec<u8> = (0..room).map(|i| (i % 251) as u8 ^ 0xC3).collect();
-    let mut out = before.clone();
-    let Answer { number, count } = fewest_frames(ascending, addresses, bytes, &mut out);
-    assert_eq!(out[count..], before[count..], "the rest is unchanged");
-    out.truncate(count);
-    match number {
-        0 => Ok(out),
-        _ => {
-            assert_eq!(count, 0, "a refusal returns length 0");
-            Err(number)
-        }
-    }
+    made::made_in(&held(room), |out| fewest_frames(ascending, addresses, bytes, out))
 }
 
 /// The number of a list with as many bytes as addresses, with room and without.
@@ -353,25 +340,13 @@ fn the_orders_are_sent_and_read_back() {
 /// The library on lists with nothing, one thing or several things wrong.
 #[test]
 fn the_library_agrees_on_good_and_spoilt_lists() {
-    library::assert_present();
-    let mut given = [0; 20];
-    let first = number_from("SEED", 0);
-    let lists = number_from("CALLS", LISTS).min(LISTS);
-    for seed in first..first + lists {
+    let test = "frames::the_library_agrees_on_good_and_spoilt_lists";
+    assert_agreed(test, LISTS, assert_reached, |seed| {
         let Frames { ascending, addresses, bytes, room } = any_frames(&mut Random::new(seed));
-        match try_fewest_frames(ascending, &addresses, &bytes, &vec![0xEE; room]) {
-            Ok((answer, _)) => given[usize::from(answer.number)] += 1,
-            Err(difference) => {
-                let listing =
-                    format!("{ascending}, {addresses:X?} with {bytes:02X?} in {room} bytes\n");
-                let subject = "frames::the_library_agrees_on_good_and_spoilt_lists";
-                differ(subject, seed, &difference, &listing)
-            }
-        }
-    }
-    if lists == LISTS {
-        assert_reached(&given);
-    }
+        let agreed = try_fewest_frames(ascending, &addresses, &bytes, &vec![0xEE; room]);
+        let listing = || format!("{ascending}, {addresses:X?} with {bytes:02X?} in {room} bytes\n");
+        agreed.map_err(|told| (told, listing()))
+    });
 }
 
 /// That the generated lists reach every number.
@@ -386,9 +361,6 @@ fn generated_lists_reach_every_number() {
     assert_reached(&given);
 }
 
-fn assert_reached(given: &[u64; 20]) {
-    for (number, &times) in given.iter().enumerate() {
-        let reached = [0, 11, 19].contains(&number);
-        assert!(if reached { times >= 500 } else { times == 0 }, "{number}: {times} times");
-    }
+fn assert_reached(given: &[u64]) {
+    assert_numbers("the fewest frames", given, &[0, 11, 19], 500);
 }

@@ -3,10 +3,14 @@
 //! in memory beside inaccessible pages.
 
 use couplingnut_tests::environment::{differ, number_from};
-use couplingnut_tests::generate::maps::{count, good_map, simple_map, with_flags, Damage};
+use couplingnut_tests::generate::maps::{
+    count, good_map, in_each_version, maps_near, simple_map, with_flags, Damage,
+};
 use couplingnut_tests::generate::random::Random;
 use couplingnut_tests::guarded::{Against, Guarded};
 use couplingnut_tests::library;
+use couplingnut_tests::made::{held_for_samples, NOT_WRITTEN};
+use couplingnut_tests::tally::assert_numbers;
 use second::map::map_test;
 use second::sender::{send, Order};
 
@@ -34,7 +38,7 @@ const WIDE: [u64; 10] = [
 
 /// How often each number was given.
 #[derive(Default)]
-struct Given([usize; 12]);
+struct Given([u64; 12]);
 
 impl Given {
     fn note(&mut self, number: u8) {
@@ -42,11 +46,8 @@ impl Given {
     }
 
     /// That these numbers, and no others, were given so often.
-    fn assert_each(&self, numbers: &[usize], times: usize) {
-        for (number, &given) in self.0.iter().enumerate() {
-            let expected = if numbers.contains(&number) { times..=usize::MAX } else { 0..=0 };
-            assert!(expected.contains(&given), "number {number} was given {given} times");
-        }
+    fn assert_each(&self, numbers: &[usize], times: u64) {
+        assert_numbers("the library", &self.0, numbers, times);
     }
 }
 
@@ -75,7 +76,7 @@ fn compare_order(seed: u64, order: &Order, room: usize, buffers: &mut Buffers, g
     buffers.expected.extend(before);
     let answer = send(order, &mut buffers.expected);
     let found = buffers.out.hold(before, against);
-    let samples = buffers.samples.hold_number(0xDEAD_BEEF_DEAD_BEEF, against);
+    let samples = buffers.samples.hold_number(NOT_WRITTEN, against);
     let lent = Order { data: buffers.data.hold(order.data, against), ..*order };
     let number = library::send_into(&lent, found, samples);
     let same = (number, *samples) == (u32::from(answer.number), answer.count as u64)
@@ -105,10 +106,9 @@ struct Buffers {
 }
 
 impl Buffers {
-    /// Bit 4 is set in each byte, and so none of them is a sample.
     fn new() -> Self {
         Buffers {
-            before: (0..ROOMY).map(|i| (i % 251) as u8 | 0x10).collect(),
+            before: held_for_samples(ROOMY),
             expected: Vec::with_capacity(ROOMY),
             out: Guarded::new(ROOMY),
             data: Guarded::new(1_002),
@@ -166,18 +166,8 @@ fn any_map(random: &mut Random) -> Vec<u8> {
 #[test]
 fn the_map_test_looks_at_every_byte_and_length() {
     let (mut given, mut memory) = (Given::default(), map_memory());
-    let old = simple_map(18);
-    for map in [with_flags(&old, 0), with_flags(&old, 1), old] {
-        for length in 0..map.len() {
-            compare_map(0, &map[..length], &mut memory, &mut given);
-        }
-        for at in 0..map.len() {
-            for value in 0..=255 {
-                let mut changed = map.clone();
-                changed[at] = value;
-                compare_map(0, &changed, &mut memory, &mut given);
-            }
-        }
+    for near in in_each_version(&simple_map(18)).iter().flat_map(|map| maps_near(map)) {
+        compare_map(0, &near, &mut memory, &mut given);
     }
     for count in [15, 16, 17, 8_191, 8_192, 8_193] {
         let old = simple_map(count);

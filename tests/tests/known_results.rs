@@ -2,6 +2,7 @@
 //! library and, where the program can show them, by busread.
 
 use couplingnut_tests::both::{map_test, send};
+use couplingnut_tests::by_hand::frame;
 use couplingnut_tests::chip::{sent, Chip};
 use couplingnut_tests::generate::maps::{
     flagged_map_of, map_of, set_entry, simple_map, with_flags,
@@ -11,15 +12,6 @@ use second::report::report;
 use second::sender::Order;
 use second::session::{next_address, Session};
 use second::Answer;
-
-/// The samples that make these bits one frame: "for each bit b, 4b then 4b + 2".
-fn frame(bits: &str) -> Vec<u8> {
-    let clocked = bits.chars().filter_map(|bit| bit.to_digit(2)).flat_map(|b| {
-        let b = b as u8;
-        [4 * b, 4 * b + 2]
-    });
-    [0x00].into_iter().chain(clocked).chain([0x00, 0x01]).collect()
-}
 
 /// A streaming write in the settings after opening.
 fn write_of(start: u64, data: &[u8]) -> Vec<u8> {

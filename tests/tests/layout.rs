@@ -1,5 +1,6 @@
 //! The bytes of a session: the header's table, by hand and by the library.
 
+use couplingnut_tests::by_hand::{clocked, clocked_on};
 use couplingnut_tests::calls::{Call, Comparison, Given};
 use couplingnut_tests::generate::maps::{set_entry, simple_map, with_flags};
 use couplingnut_tests::generate::older::maps::simple_older_map;
@@ -62,24 +63,29 @@ fn the_bytes_of_a_session_are_by_the_table() {
     }
 }
 
-/// Byte 19, which an older chip's runs have: bytes left, the present one
-/// included, or 4 for a stream; and the sessions that only an older chip has.
-#[test]
-fn the_bytes_left_have_their_place() {
-    let mut comparison = Comparison::new("layout::the_bytes_left_have_their_place");
-    let older = Older { part: Part::Ad9508, top: 0x002C };
-    let mut given = Given::opened_by(Some(older), &simple_older_map(older));
-    let mut leaves = |samples: &[u8], expected: SessionBytes| {
+/// Reads on from a call: samples, and the bytes of the session that they have to leave.
+fn reading_on(test: &'static str, mut given: Given) -> impl FnMut(&[u8], SessionBytes) {
+    let mut comparison = Comparison::new(test);
+    move |samples, expected| {
         given.samples = samples.to_vec();
         given.records = vec![0xEE; 60];
         comparison.begin(0, Against::PageAfter);
         let left = comparison.call(Call::Read, &given);
         assert_eq!((left.number, left.session), (0, expected));
         given.go_on(&left);
-    };
-    let counted = [&[0][..], &clocked("1 10 0000000100110", 4)].concat();
+    }
+}
+
+/// Byte 19, which an older chip's runs have: bytes left, the present one
+/// included, or 4 for a stream; and the sessions that only an older chip has.
+#[test]
+fn the_bytes_left_have_their_place() {
+    let older = Older { part: Part::Ad9508, top: 0x002C };
+    let given = Given::opened_by(Some(older), &simple_older_map(older));
+    let mut leaves = reading_on("layout::the_bytes_left_have_their_place", given);
+    let counted = [&[0][..], &clocked("1 10 0000000100110")].concat();
     leaves(&counted, [4, 0, 1, 2, 0, 0, 0, 0, 0x26, 1, 0, 0, 0, 0, 0, 0, 0, 0, 0, 3, 0]);
-    let byte = clocked("0000 0000", 4);
+    let byte = clocked("0000 0000");
     leaves(&byte, [4, 0, 1, 2, 0, 0, 0, 0, 0x25, 1, 0, 0, 0, 0, 0, 0, 0, 0, 0, 2, 0]);
     // Waiting, and going on.
     leaves(&[0x01], [4, 1, 0, 2, 0, 0, 0, 0, 0x25, 1, 0, 0, 0, 0, 0, 0, 0, 0, 0, 2, 0]);
@@ -88,7 +94,7 @@ fn the_bytes_left_have_their_place() {
     // Passing over, and at rest.
     leaves(&byte, [4, 0, 1, 0, 0, 0, 0, 0, 0, 0, 0, 0, 0, 0, 0, 0, 0, 0, 0, 0, 0]);
     leaves(&[0x01], [4, 1, 0, 0, 0, 0, 0, 0, 0, 0, 0, 0, 0, 0, 0, 0, 0, 0, 0, 0, 0]);
-    let streaming = [&[0][..], &clocked("0 11 0000000100110", 4)].concat();
+    let streaming = [&[0][..], &clocked("0 11 0000000100110")].concat();
     leaves(&streaming, [4, 0, 1, 2, 0, 0, 0, 0, 0x26, 0, 0, 0, 0, 0, 0, 0, 0, 0, 0, 4, 0]);
     leaves(&byte, [4, 0, 1, 2, 0, 0, 0, 0, 0x25, 0, 0, 0, 0, 0, 0, 0, 0, 0, 0, 4, 0]);
 }
@@ -97,71 +103,47 @@ fn the_bytes_left_have_their_place() {
 /// and clear again at the end of the frame.
 #[test]
 fn the_mark_of_an_armed_session_has_its_place() {
-    let mut comparison = Comparison::new("layout::the_mark_of_an_armed_session_has_its_place");
     let mut map = with_flags(&simple_map(17), 1);
     set_entry(&mut map, 0x0010, [3, 0xFF, 0x11]);
-    let mut given = Given::opened(&map);
-    let mut leaves = |samples: &[u8], expected: SessionBytes| {
-        given.samples = samples.to_vec();
-        given.records = vec![0xEE; 60];
-        comparison.begin(0, Against::PageAfter);
-        let left = comparison.call(Call::Read, &given);
-        assert_eq!((left.number, left.session), (0, expected));
-        given.go_on(&left);
-    };
-    let instruction = [&[0][..], &clocked("0000 0000 0001 0000", 4)].concat();
+    let test = "layout::the_mark_of_an_armed_session_has_its_place";
+    let mut leaves = reading_on(test, Given::opened(&map));
+    let instruction = [&[0][..], &clocked("0000 0000 0001 0000")].concat();
     leaves(&instruction, [4, 0, 1, 2, 0, 0, 0, 0, 0x10, 0, 0, 0, 0, 0, 0, 0, 0, 0, 0, 0, 0]);
-    let bits = clocked("0010 001", 4);
+    let bits = clocked("0010 001");
     leaves(&bits, [4, 0, 1, 2, 7, 0, 0x11, 0, 0x10, 0, 0, 0, 0, 0, 0, 0, 0, 0, 0, 0, 0]);
-    let bits = clocked("0", 4);
+    let bits = clocked("0");
     leaves(&bits, [4, 0, 1, 2, 0, 0, 0, 0, 0x0F, 0, 0, 0, 0, 0, 0, 0, 0, 0, 0, 0, 1]);
-    let bits = clocked("11", 4);
+    let bits = clocked("11");
     leaves(&bits, [4, 0, 1, 2, 2, 0, 3, 0, 0x0F, 0, 0, 0, 0, 0, 0, 0, 0, 0, 0, 0, 1]);
     leaves(&[0x00, 0x01], [4, 1, 0, 0, 0, 0, 0, 0, 0, 0, 0, 0, 0, 0, 0, 0, 0, 0, 0, 0, 0]);
-}
-
-/// "For each bit b, 4b then 4b + 2", on the line of this level.
-fn clocked(bits: &str, line: u8) -> Vec<u8> {
-    let level = |bit| if bit == '1' { line } else { 0 };
-    bits.chars().filter(|&c| c != ' ').flat_map(|bit| [level(bit), level(bit) + 2]).collect()
 }
 
 /// Every field by its place: the library reads on and the bytes are those that
 /// the table asks for, written out.
 #[test]
 fn every_field_has_its_place() {
-    const SDIO: u8 = 4;
-    const SDO: u8 = 8;
-    let mut comparison = Comparison::new("layout::every_field_has_its_place");
-    let mut given = Given::opened(&simple_map(16));
-    let mut leaves = |samples: &[u8], expected: SessionBytes| {
-        given.samples = samples.to_vec();
-        given.records = vec![0xEE; 60];
-        comparison.begin(0, Against::PageAfter);
-        let left = comparison.call(Call::Read, &given);
-        assert_eq!((left.number, left.session), (0, expected));
-        given.go_on(&left);
-    };
+    let given = Given::opened(&simple_map(16));
+    let mut leaves = reading_on("layout::every_field_has_its_place", given);
     leaves(&[], [4, 1, 0, 0, 0, 0, 0, 0, 0, 0, 0, 0, 0, 0, 0, 0, 0, 0, 0, 0, 0]);
     leaves(&[0x03], [4, 1, 1, 0, 0, 0, 0, 0, 0, 0, 0, 0, 0, 0, 0, 0, 0, 0, 0, 0, 0]);
     // 0x42 to 0x0000: LSB first, in use from the next instruction on.
-    let frame = [&[0][..], &clocked("0000 0000 0000 0000 0100 0010", SDIO), &[1]].concat();
+    let frame = [&[0][..], &clocked("0000 0000 0000 0000 0100 0010"), &[1]].concat();
     leaves(&frame, [4, 1, 0, 0, 0, 0, 0, 0, 0, 0, 1, 0, 0, 0, 0, 0, 0, 0, 0, 0, 0]);
     leaves(&[0x00], [4, 0, 0, 1, 0, 0, 0, 0, 0, 0, 1, 0, 0, 0, 0, 1, 0, 0, 0, 0, 0]);
     // 0x24 and then 0x18, lowest bit first, each alone.
-    let frame = [&clocked("0000 0000 0000 0000 0010 0100", SDIO)[..], &[1, 0]].concat();
+    let frame = [&clocked("0000 0000 0000 0000 0010 0100")[..], &[1, 0]].concat();
     leaves(&frame, [4, 0, 0, 1, 0, 0, 0, 0, 0, 0, 0, 1, 0, 0, 0, 0, 1, 0, 0, 0, 0]);
-    let frame = [&clocked("0000 0000 0000 0000 0001 1000", SDIO)[..], &[1, 0]].concat();
+    let frame = [&clocked("0000 0000 0000 0000 0001 1000")[..], &[1, 0]].concat();
     leaves(&frame, [4, 0, 0, 1, 0, 0, 0, 0, 0, 0, 0, 0, 1, 0, 0, 0, 0, 1, 0, 0, 0]);
     // 0xB0 to 0x0001: the other two. Bit 4 is none of them.
-    let frame = [&clocked("0000 0000 0000 0001 1011 0000", SDIO)[..], &[1]].concat();
+    let frame = [&clocked("0000 0000 0000 0001 1011 0000")[..], &[1]].concat();
     leaves(&frame, [4, 1, 0, 0, 0, 0, 0, 0, 0, 0, 0, 0, 1, 1, 1, 0, 0, 0, 0, 0, 0]);
     leaves(&[0x00], [4, 0, 0, 1, 0, 0, 0, 0, 0, 0, 0, 0, 1, 1, 1, 0, 0, 1, 1, 0, 0]);
     // A read of 0x4A53, bit by bit; then two bits on SDO.
-    let bits = clocked("1100 1010 0101 00", SDIO);
+    let bits = clocked("1100 1010 0101 00");
     leaves(&bits, [4, 0, 1, 1, 14, 0x32, 0x94, 0, 0, 0, 0, 0, 1, 1, 1, 0, 0, 1, 1, 0, 0]);
-    let bits = clocked("11", SDIO);
+    let bits = clocked("11");
     leaves(&bits, [4, 0, 1, 2, 0, 0, 0, 0x4A, 0x53, 1, 0, 0, 1, 1, 1, 0, 0, 1, 1, 0, 0]);
-    let bits = [&clocked("10", SDO)[..], &[0]].concat();
+    let bits = [&clocked_on(8, "10")[..], &[0]].concat();
     leaves(&bits, [4, 0, 0, 2, 2, 0, 2, 0x4A, 0x53, 1, 0, 0, 1, 1, 1, 0, 0, 1, 1, 0, 0]);
 }

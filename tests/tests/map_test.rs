@@ -2,8 +2,9 @@
 
 use couplingnut_tests::both::map_test;
 use couplingnut_tests::generate::maps::{
-    count, entry_at, good_map, set_entry, simple_map, with_flags, Damage,
+    count, entry_at, good_map, in_each_version, set_entry, simple_map, with_flags, Damage,
 };
+use couplingnut_tests::generate::near::{altered, cut, Altered};
 use couplingnut_tests::generate::random::Random;
 
 #[test]
@@ -43,18 +44,12 @@ fn a_broken_header_comes_before_a_broken_entry() {
     }
 }
 
-/// The simple map in both versions, and with the flag.
-fn simple_maps(count: usize) -> [Vec<u8>; 3] {
-    let map = simple_map(count);
-    [with_flags(&map, 0), with_flags(&map, 1), map]
-}
-
 #[test]
 fn every_other_length_is_refused() {
-    for map in simple_maps(18) {
+    for map in in_each_version(&simple_map(18)) {
         assert_eq!(map_test(&map), 0);
-        for length in 0..map.len() {
-            assert_eq!(map_test(&map[..length]), 2, "{length} bytes");
+        for short in cut(&map) {
+            assert_eq!(map_test(&short), 2, "{} bytes", short.len());
         }
         for more in 1..=6 {
             assert_eq!(map_test(&[&map[..], &vec![2; more]].concat()), 2, "{more} bytes too many");
@@ -65,7 +60,7 @@ fn every_other_length_is_refused() {
 /// All numbers of two bytes as length and as n: only their own are taken.
 #[test]
 fn every_other_length_field_and_count_is_refused() {
-    for map in simple_maps(18) {
+    for map in in_each_version(&simple_map(18)) {
         for (at, number) in [0, 3].into_iter().flat_map(|at| (0..=0xFFFF_u16).map(move |n| (at, n)))
         {
             let mut changed = map.clone();
@@ -138,14 +133,10 @@ fn may_stand(entry: usize, value: u8) -> bool {
 
 #[test]
 fn every_byte_of_a_map_is_looked_at() {
-    for map in simple_maps(18) {
-        for at in 0..map.len() {
-            for value in 0..=255 {
-                let mut changed = map.clone();
-                changed[at] = value;
-                let expected = number_with(&map, at, value);
-                assert_eq!(map_test(&changed), expected, "byte {at} is {value:#04X}");
-            }
+    for map in in_each_version(&simple_map(18)) {
+        for Altered { at, value, bytes } in altered(&map) {
+            let expected = number_with(&map, at, value);
+            assert_eq!(map_test(&bytes), expected, "byte {at} is {value:#04X}");
         }
     }
 }

@@ -1,15 +1,14 @@
 //! Mending a map, by both sides: Ask 12 of document 02.
 
 use couplingnut_tests::both::{map_test, mend, try_mend};
-use couplingnut_tests::environment::{differ, number_from};
 use couplingnut_tests::generate::maps::{
-    count, count_of, entries_of, entry_at, flagged_map_of, good_map, map_of, set_entry, simple_map,
-    with_flags, Damage,
+    count, count_of, entries_of, entry_at, good_map, in_each_version, map_of, maps_near, set_entry,
+    simple_map, with_flags, Damage,
 };
 use couplingnut_tests::generate::mends::{any_mending, scrambled_map, slipped_map, Mending};
 use couplingnut_tests::generate::random::Random;
-use couplingnut_tests::library;
-use second::{self, Answer};
+use couplingnut_tests::made::{assert_agreed, held, made_in};
+use couplingnut_tests::tally::assert_numbers;
 
 const MAPS: u64 = 60_000;
 
@@ -17,20 +16,14 @@ const MAPS: u64 = 60_000;
 const ROOMY: usize = 40_960 + 7;
 
 /// The mended map and the list, made in so much room, or the number that refuses
-/// them. Whatever of the list is not made stays as it was, and a refusal leaves all.
+/// them. A refusal leaves all as it was.
 fn mended_in(map: &[u8], room: usize) -> Result<(Vec<u8>, Vec<u8>), u8> {
-    let before: Vec<u8> = (0..room).map(|i| (i % 251) as u8 ^ 0xC3).collect();
-    let (mut now, mut list) = (map.to_vec(), before.clone());
-    let Answer { number, count } = mend(&mut now, &mut list);
-    assert_eq!(list[count..], before[count..], "the rest is unchanged");
-    list.truncate(count);
-    match number {
-        0 => Ok((now, list)),
-        _ => {
-            assert_eq!((now.as_slice(), count), (map, 0), "a refusal leaves the map");
-            Err(number)
-        }
+    let mut now = map.to_vec();
+    let made = made_in(&held(room), |list| mend(&mut now, list));
+    if made.is_err() {
+        assert_eq!(now, map, "a refusal leaves the map");
     }
+    made.map(|list| (now, list))
 }
 
 fn mended(map: &[u8]) -> (Vec<u8>, Vec<u8>) {
@@ -45,11 +38,6 @@ fn room_for(map: &[u8]) -> usize {
 /// The bytes that the list of this map takes.
 fn needed(map: &[u8]) -> usize {
     second::mend::mend(&mut map.to_vec(), &mut vec![0; room_for(map)]).count
-}
-
-/// The map of these entries in each version, and with the flag.
-fn both_versions(entries: &[[u8; 3]]) -> [Vec<u8>; 3] {
-    [map_of(entries), flagged_map_of(0, entries), flagged_map_of(1, entries)]
 }
 
 #[test]
@@ -134,10 +122,10 @@ fn every_place_by_every_kind() {
 fn assert_one_entry(address: usize, was: [u8; 3], due: [u8; 3]) {
     let mut entries = entries_of(&simple_map(18));
     entries[address] = was;
-    let typed = both_versions(&entries);
+    let typed = in_each_version(&map_of(&entries));
     entries[address] = due;
     let list = if was == due { vec![] } else { vec![0, address as u8, was[0], was[1], was[2]] };
-    for (map, right) in typed.iter().zip(both_versions(&entries)) {
+    for (map, right) in typed.iter().zip(in_each_version(&map_of(&entries))) {
         assert_eq!(mended(map), (right, list.clone()), "{was:02X?} at {address:#06X}");
     }
 }
@@ -214,7 +202,7 @@ fn any_bytes_behind_a_good_head_are_mended() {
 fn the_longest_list() {
     let mut entries = vec![[0xFF, 0xFF, 0xFF]; 8_192];
     entries[0x0004] = [0xFF, 0xFF, 0x01];
-    for map in both_versions(&entries) {
+    for map in in_each_version(&map_of(&entries)) {
         let (_, list) = mended(&map);
         assert_eq!(list.len(), 40_960);
         assert_eq!(list[40_955..], [0x1F, 0xFF, 0xFF, 0xFF, 0xFF]);
@@ -324,21 +312,8 @@ fn every_flag_byte_has_its_number() {
 /// all others are mended or have a bad product number.
 #[test]
 fn the_call_looks_at_every_byte_and_length() {
-    let old = simple_map(17);
-    for map in [old.clone(), with_flags(&old, 0), with_flags(&old, 1)] {
-        for at in 0..map.len() {
-            for value in 0..=255 {
-                let mut changed = map.clone();
-                changed[at] = value;
-                compare_with_map_test(&changed);
-            }
-        }
-        for length in 0..map.len() {
-            compare_with_map_test(&map[..length]);
-        }
-        for more in 1..=4 {
-            compare_with_map_test(&[&map[..], &[0; 4][..more]].concat());
-        }
+    for map in in_each_version(&simple_map(17)) {
+        maps_near(&map).for_each(|near| compare_with_map_test(&near));
     }
 }
 
@@ -357,30 +332,18 @@ fn compare_with_map_test(map: &[u8]) {
 /// The library on maps with nothing, little or everything wrong.
 #[test]
 fn the_library_agrees_on_good_and_typed_maps() {
-    library::assert_present();
-    let mut given = [0; 19];
-    let first = number_from("SEED", 0);
-    let maps = number_from("CALLS", MAPS).min(MAPS);
-    for seed in first..first + maps {
+    let test = "mend::the_library_agrees_on_good_and_typed_maps";
+    assert_agreed(test, MAPS, assert_reached, |seed| {
         let Mending { map, room } = any_mending(&mut Random::new(seed), needed);
-        match try_mend(&map, &vec![0xEE; room]) {
-            Ok((answer, _)) => given[usize::from(answer.number)] += 1,
-            Err(difference) => {
-                let listing = format!("room {room}, map {map:02X?}\n");
-                let subject = "mend::the_library_agrees_on_good_and_typed_maps";
-                differ(subject, seed, &difference, &listing)
-            }
-        }
-    }
-    if maps == MAPS {
-        assert_reached(&given);
-    }
+        let agreed = try_mend(&map, &vec![0xEE; room]);
+        agreed.map_err(|told| (told, format!("room {room}, map {map:02X?}\n")))
+    });
 }
 
 /// That the generated maps reach every number.
 #[test]
 fn generated_maps_reach_every_number() {
-    let mut given = [0; 19];
+    let mut given = [0; 20];
     for seed in 0..MAPS / 10 {
         let Mending { map, room } = any_mending(&mut Random::new(seed), needed);
         given[usize::from(mended_in(&map, room).err().unwrap_or(0))] += 1;
@@ -388,9 +351,6 @@ fn generated_maps_reach_every_number() {
     assert_reached(&given);
 }
 
-fn assert_reached(given: &[u64; 19]) {
-    for (number, &times) in given.iter().enumerate() {
-        let reached = [0, 2, 6, 18].contains(&number);
-        assert!(if reached { times >= 200 } else { times == 0 }, "{number}: {times} times");
-    }
+fn assert_reached(given: &[u64]) {
+    assert_numbers("mending", given, &[0, 2, 6, 18], 200);
 }

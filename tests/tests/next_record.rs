@@ -1,14 +1,12 @@
 //! The library's call for the next record, against its own `read`: the same
 //! samples at once, and one by one.
 
-use couplingnut_tests::calls::{Call, Comparison, Given};
+use couplingnut_tests::calls::{Call, Comparison, Given, Left};
+use couplingnut_tests::generate::calls::put_any_state;
 use couplingnut_tests::generate::maps::{count, good_map};
 use couplingnut_tests::generate::random::Random;
-use couplingnut_tests::generate::sessions::sound_session;
 use couplingnut_tests::generate::traces::{clocks, trace};
-use couplingnut_tests::generate::words::any_words;
 use couplingnut_tests::guarded::Against;
-use couplingnut_tests::layout::to_bytes;
 use second::reader::{most_records, RECORD};
 
 /// A chip in any sound session, with samples and room for their records.
@@ -16,10 +14,7 @@ fn any_reading(random: &mut Random, length: usize) -> Given {
     let count = count(random).min(600);
     let map = good_map(random, count);
     let mut given = Given::opened(&map);
-    given.session = to_bytes(&sound_session(random));
-    given.active = random.bytes(count);
-    given.buffer = random.bytes(count);
-    given.words = any_words(random, count);
+    put_any_state(random, &mut given);
     given.samples =
         if random.coin() { clocks(random, length) } else { trace(random, &map, length, true) };
     given.records = random.bytes(RECORD * most_records(length));
@@ -28,7 +23,7 @@ fn any_reading(random: &mut Random, length: usize) -> Given {
 
 /// Calls for the next record until no sample is left: what the last one left,
 /// and all records.
-fn one_after_another(comparison: &mut Comparison, given: &Given) -> (Given, Vec<u8>) {
+pub fn one_after_another(comparison: &mut Comparison, given: &Given) -> (Given, Vec<u8>) {
     let mut now = Given { records: vec![0xEE; RECORD], ..given.clone() };
     let mut records = Vec::new();
     loop {
@@ -46,6 +41,13 @@ fn one_after_another(comparison: &mut Comparison, given: &Given) -> (Given, Vec<
     }
 }
 
+/// That session, banks and words are now what a call left of the same samples.
+pub fn assert_state(now: &Given, left: &Left, seed: u64) {
+    assert_eq!(now.session, left.session, "seed {seed}");
+    assert!(now.active == left.active && now.buffer == left.buffer, "seed {seed}");
+    assert_eq!(now.words, left.words, "seed {seed}");
+}
+
 #[test]
 fn next_records_one_after_another_are_the_samples_read_at_once() {
     let mut comparison =
@@ -59,9 +61,7 @@ fn next_records_one_after_another_are_the_samples_read_at_once() {
         let (after, records) = one_after_another(&mut comparison, &given);
         assert_eq!(read.number, 0);
         assert_eq!(records, read.records[..RECORD * read.count as usize], "seed {seed}");
-        assert_eq!(after.session, read.session, "seed {seed}");
-        assert!(after.active == read.active && after.buffer == read.buffer, "seed {seed}");
-        assert_eq!(after.words, read.words, "seed {seed}");
+        assert_state(&after, &read, seed);
     }
     assert!(comparison.tally.calls > 20_000, "{} calls", comparison.tally.calls);
 }
@@ -97,9 +97,7 @@ fn the_next_record_stands_at_the_first_sample_that_gives_one() {
         let (taken, after) = sample_by_sample(&mut comparison, &given);
         assert_eq!((next.number, next.taken), (0, taken as u64), "seed {seed}");
         assert_eq!(next.records, after.records, "seed {seed}");
-        assert_eq!(next.session, after.session, "seed {seed}");
-        assert!(next.active == after.active && next.buffer == after.buffer, "seed {seed}");
-        assert_eq!(next.words, after.words, "seed {seed}");
+        assert_state(&after, &next, seed);
         *(if next.count == 1 { &mut with } else { &mut without }) += 1;
     }
     assert!(with > 500 && without > 100, "{with} with a record, {without} without");

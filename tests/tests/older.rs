@@ -12,6 +12,7 @@ mod sessions;
 mod stalls;
 mod stopped_run;
 
+use couplingnut_tests::by_hand::clocked_number;
 use couplingnut_tests::chip::Chip;
 use couplingnut_tests::generate::older::maps::simple_older_map;
 use second::older::{Older, Part};
@@ -34,36 +35,14 @@ fn simple_chip(older: Older, lsb_first: bool) -> Chip {
     chip
 }
 
-/// "For each bit b, 4b then 4b + 2", with nothing around it.
-fn clocked(bits: &str) -> Vec<u8> {
-    let level = |bit| if bit == '1' { 4 } else { 0 };
-    bits.chars().filter(|&c| c != ' ').flat_map(|bit| [level(bit), level(bit) + 2]).collect()
-}
-
-/// The same as one frame.
-fn frame(bits: &str) -> Vec<u8> {
-    [&[0x00][..], &clocked(bits), &[0x00, 0x01]].concat()
-}
-
-/// A number of so many bits, as it is clocked.
-fn number_bits(value: u16, width: u32, lsb_first: bool) -> Vec<u8> {
-    let bit = |i| if value >> i & 1 == 1 { '1' } else { '0' };
-    let lowest_first: Vec<char> = (0..width).map(bit).collect();
-    let bits: String = match lsb_first {
-        true => lowest_first.into_iter().collect(),
-        false => lowest_first.into_iter().rev().collect(),
-    };
-    clocked(&bits)
-}
-
 /// Read or write, the length field and the address, as they are clocked.
 fn instruction(read: bool, length: u16, start: u16, lsb_first: bool) -> Vec<u8> {
-    number_bits(u16::from(read) << 15 | length << 13 | start, 16, lsb_first)
+    clocked_number(u16::from(read) << 15 | length << 13 | start, 16, lsb_first)
 }
 
 /// Bytes, as they are clocked.
 fn bytes(data: &[u8], lsb_first: bool) -> Vec<u8> {
-    data.iter().flat_map(|&v| number_bits(u16::from(v), 8, lsb_first)).collect()
+    data.iter().flat_map(|&v| clocked_number(u16::from(v), 8, lsb_first)).collect()
 }
 
 /// The addresses that so many bytes go to, by the rules: from the start down, or up

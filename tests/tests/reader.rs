@@ -2,6 +2,7 @@
 //! the edges that are easily misread.
 
 use couplingnut_tests::both::{open, to_version_2};
+use couplingnut_tests::by_hand::clocked;
 use couplingnut_tests::chip::{sent, Chip};
 use couplingnut_tests::generate::maps::{
     self, good_map, map_of, set_entry, simple_map, with_flags,
@@ -226,12 +227,6 @@ fn both_versions_are_read_as_the_same_map() {
         assert_eq!(new.read(&samples), lines);
         assert_eq!(Chip { map: map.clone(), ..new }, old);
     }
-}
-
-/// "For each bit b, 4b then 4b + 2", with nothing around it.
-fn clocked(bits: &str) -> Vec<u8> {
-    let level = |bit| if bit == '1' { 4 } else { 0 };
-    bits.chars().filter(|&c| c != ' ').flat_map(|bit| [level(bit), level(bit) + 2]).collect()
 }
 
 #[test]

@@ -43,14 +43,6 @@ fn opened() -> Chip {
     Chip::opened(&simple_map(16))
 }
 
-/// The page that this case's memory lies against.
-fn against(seed: u64) -> Against {
-    match seed % 4 {
-        0 => Against::PageBefore,
-        _ => Against::PageAfter,
-    }
-}
-
 /// A call with a recording of up to so many samples, and with room for its records;
 /// sometimes with more, or less.
 fn any_call(random: &mut Random, most: usize) -> Given {
@@ -84,7 +76,7 @@ fn repeats_alter_nothing() {
     let mut comparison = Comparison::new("repeats::repeats_alter_nothing");
     let (mut put_in, mut left_out) = (0, 0);
     for seed in 0..4_000 {
-        comparison.begin(seed, against(seed));
+        comparison.begin(seed, Against::of_seed(seed));
         let mut random = Random::new(seed);
         let given = any_call(&mut random, 900);
         let last = last_levels(&given);
@@ -111,7 +103,7 @@ fn refused_calls_are_refused_with_repeats_too() {
     library::assert_present();
     let mut comparison = Comparison::new("repeats::refused_calls_are_refused_with_repeats_too");
     for seed in 0..4_000 {
-        comparison.begin(seed, against(seed));
+        comparison.begin(seed, Against::of_seed(seed));
         let mut random = Random::new(seed);
         let mut given = any_call(&mut random, 300);
         let last = last_levels(&given);
@@ -166,7 +158,7 @@ fn repeats_alter_nothing_across_lists_of_calls() {
     library::assert_present();
     let mut comparison = Comparison::new("repeats::repeats_alter_nothing_across_lists_of_calls");
     for seed in 0..1_500 {
-        comparison.begin(seed, against(seed));
+        comparison.begin(seed, Against::of_seed(seed));
         let mut random = Random::new(seed);
         let length = random.between(1, 700);
         let given = any_reading(&mut random, length);
@@ -188,7 +180,7 @@ fn a_recording_sampled_ten_times_as_often_reads_the_same() {
     let mut comparison =
         Comparison::new("repeats::a_recording_sampled_ten_times_as_often_reads_the_same");
     for seed in 0..1_500 {
-        comparison.begin(seed, against(seed));
+        comparison.begin(seed, Against::of_seed(seed));
         let mut random = Random::new(seed);
         let given = any_call(&mut random, 900);
         let often = sampled(&mut random, &given.samples, 10);
@@ -207,7 +199,7 @@ fn a_long_recording_sampled_ten_times_as_often_reads_the_same() {
     let mut comparison =
         Comparison::new("repeats::a_long_recording_sampled_ten_times_as_often_reads_the_same");
     for seed in 0..8 {
-        comparison.begin(seed, against(seed));
+        comparison.begin(seed, Against::of_seed(seed));
         let mut random = Random::new(seed);
         let given = any_reading(&mut random, 20_000);
         let often = sampled(&mut random, &given.samples, 10);
@@ -225,7 +217,7 @@ fn assert_repeats_leave(comparison: &mut Comparison, older: Option<Older>, map: 
     };
     let opened = Given::opened_by(older, map);
     for (seed, session) in (0..).zip(pieces.into_iter().flat_map(with_every_setting)) {
-        comparison.begin(seed, against(seed));
+        comparison.begin(seed, Against::of_seed(seed));
         let mut random = Random::new(seed);
         let mut given = Given { session: to_bytes(&session), ..opened.clone() };
         given.samples =
@@ -259,7 +251,7 @@ fn repeats_are_read_up_to_the_limit() {
     let mut comparison = Comparison::new("repeats::repeats_are_read_up_to_the_limit");
     let mut read = 0;
     for seed in 0..40 {
-        comparison.begin(seed, against(seed));
+        comparison.begin(seed, Against::of_seed(seed));
         let mut random = Random::new(seed);
         let given = any_call(&mut random, 3_000);
         let last = last_levels(&given);

@@ -7,6 +7,7 @@ mod moves;
 mod older;
 mod refusals;
 
+use couplingnut_tests::by_hand::clocked_number;
 use couplingnut_tests::chip::Chip;
 use couplingnut_tests::generate::maps::{set_entry, simple_map, with_flags};
 use second::settings::Settings;
@@ -64,10 +65,9 @@ fn moved(chip: &Chip) -> Vec<u8> {
     active
 }
 
-/// A number of so many bits, highest first: "for each bit b, 4b then 4b + 2".
+/// A number of so many bits, highest first.
 fn number(value: u16, width: u32) -> Vec<u8> {
-    let level = |i: u32| if value >> i & 1 == 1 { 4 } else { 0 };
-    (0..width).rev().flat_map(|i| [level(i), level(i) + 2]).collect()
+    clocked_number(value, width, false)
 }
 
 fn write_to(address: u16) -> Vec<u8> {

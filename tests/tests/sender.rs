@@ -5,6 +5,7 @@ use couplingnut_tests::both::send;
 use couplingnut_tests::chip::{sent, settings_of, Chip};
 use couplingnut_tests::generate::maps::good_map;
 use couplingnut_tests::generate::random::Random;
+use couplingnut_tests::made::made_in;
 use second::sender::Order;
 use second::session::Session;
 use second::Answer;
@@ -12,13 +13,7 @@ use second::Answer;
 const GOOD: Order = Order { direction: 0, settings: 0, start: 0x0010, count: 1, data: &[0x3C] };
 
 fn number(order: &Order, room: usize) -> u8 {
-    let mut outgoing = vec![0xEE; room];
-    let answer = send(order, &mut outgoing);
-    if answer.number != 0 {
-        assert_eq!(answer.count, 0, "a refusal returns 0 samples");
-        assert!(outgoing.iter().all(|&byte| byte == 0xEE), "a refusal leaves the buffer");
-    }
-    answer.number
+    made_in(&vec![0xEE; room], |out| send(order, out)).err().unwrap_or(0)
 }
 
 #[test]

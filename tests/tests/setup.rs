@@ -8,26 +8,14 @@ mod samples;
 
 use couplingnut_tests::both::send_setup;
 use couplingnut_tests::generate::setups::Listed;
+use couplingnut_tests::made::{held_for_samples, made_in};
 
 /// More than any list takes.
 const ROOMY: usize = 65_536 + 7;
 
-/// The recording that the call makes in so much room, or the number that refuses
-/// it. Whatever it does not make stays as it was.
+/// The recording that the call makes in so much room, or the number that refuses it.
 fn recorded(settings: u64, list: &[u8], room: usize) -> Result<Vec<u8>, u8> {
-    // Bit 4 is set in each byte, and so none of them is a sample.
-    let before: Vec<u8> = (0..room).map(|i| (i % 251) as u8 | 0x10).collect();
-    let mut out = before.clone();
-    let answer = send_setup(settings, list, &mut out);
-    assert_eq!(out[answer.count..], before[answer.count..], "the rest is unchanged");
-    out.truncate(answer.count);
-    match answer.number {
-        0 => Ok(out),
-        _ => {
-            assert_eq!(answer.count, 0, "a refusal says 0 samples");
-            Err(answer.number)
-        }
-    }
+    made_in(&held_for_samples(room), |out| send_setup(settings, list, out))
 }
 
 fn number(settings: u64, list: &[u8]) -> u8 {

@@ -1,15 +1,15 @@
 //! What the reader's calls are given: lists of calls from a seed, and all that
 //! can be wrong with one of them.
 
-use super::maps::{self, count_of, good_map, set_entry, with_flags, Damage};
-use super::older::maps::{good_older_map, Flaw};
+use super::maps::{self, count_of, good_map, set_entry, with_flags, Damage, Flaw};
+use super::older::maps::{broken_older_entry, good_older_map};
 use super::older::sessions::sound_older_session;
 use super::older::traces::older_trace;
 use super::older::{another_top, any_older, PARTS};
 use super::random::Random;
 use super::sessions::sound_session;
 use super::traces::{clocks, noise, trace};
-use super::words::{another_length, any_words};
+use super::words::{another_length, any_banks};
 use crate::calls::{Call, Given, Left};
 use crate::layout::{from_bytes, to_bytes, SessionBytes, SESSION_SIZE};
 use second::older::Older;
@@ -148,7 +148,8 @@ fn spoil_entry(random: &mut Random, given: &mut Given) {
         return damage(random, 3).apply(random, &mut given.map);
     };
     let flaw = random.pick(&Flaw::ALL);
-    let (address, entry) = flaw.broken_entry(random, older.part, count_of(&given.map));
+    let count = count_of(&given.map);
+    let (address, entry) = broken_older_entry(random, flaw, older.part, count);
     set_entry(&mut given.map, address, entry);
 }
 
@@ -253,15 +254,7 @@ impl Chain {
         let longest = if length < 2_000 { random.pick(&[2, 40, 400]) } else { length };
         let mut given = Given::opened_by(*older, map);
         if random.coin() {
-            let count = count_of(map);
-            let session = match older {
-                None => sound_session(&mut random),
-                Some(older) => sound_older_session(&mut random, older.top),
-            };
-            given.session = to_bytes(&session);
-            given.active = random.bytes(count);
-            given.buffer = random.bytes(count);
-            given.words = any_words(&mut random, count);
+            put_any_state(&mut random, &mut given);
         }
         Chain { random, chips, given, trace, at: 0, longest }
     }
@@ -316,13 +309,30 @@ impl Chain {
     }
 }
 
+/// Gives a call any sound session, banks and words.
+pub fn put_any_state(random: &mut Random, given: &mut Given) {
+    let session = match given.older {
+        None => sound_session(random),
+        Some(older) => sound_older_session(random, older.top),
+    };
+    given.session = to_bytes(&session);
+    (given.active, given.buffer, given.words) = any_banks(random, given.active.len());
+}
+
 /// What a master sends, or a frame that goes on and on, or no sense at all.
 pub fn any_trace(random: &mut Random, older: Option<Older>, map: &[u8], length: usize) -> Vec<u8> {
-    match (random.below(8), older) {
-        (0, _) => noise(random, length),
-        (1 | 2, _) => clocks(random, length),
-        (_, None) => trace(random, map, length, true),
-        (_, Some(older)) => older_trace(random, older, length),
+    match random.below(8) {
+        0 => noise(random, length),
+        1 | 2 => clocks(random, length),
+        _ => sent_trace(random, older, map, length),
+    }
+}
+
+/// What a master sends, in exactly so many samples.
+pub fn sent_trace(random: &mut Random, older: Option<Older>, map: &[u8], length: usize) -> Vec<u8> {
+    match older {
+        None => trace(random, map, length, true),
+        Some(older) => older_trace(random, older, length),
     }
 }
 

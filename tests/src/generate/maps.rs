@@ -1,5 +1,6 @@
 //! Good maps, and maps with one rule broken.
 
+use super::near::{altered, cut, Altered};
 use super::random::Random;
 
 /// Where in a map this register's kind stands; mask and default follow it. In
@@ -38,6 +39,18 @@ pub fn entries_of(map: &[u8]) -> Vec<[u8; 3]> {
 /// A map as one of version 2 with these flags, whatever it was.
 pub fn with_flags(map: &[u8], flags: u8) -> Vec<u8> {
     flagged_map_of(flags, &entries_of(map))
+}
+
+/// A map in both versions, and with the flag.
+pub fn in_each_version(map: &[u8]) -> [Vec<u8>; 3] {
+    [map_of(&entries_of(map)), with_flags(map, 0), with_flags(map, 1)]
+}
+
+/// Maps near this one: each byte of it takes every value, alone, and each length is cut
+/// or drawn out.
+pub fn maps_near(map: &[u8]) -> impl Iterator<Item = Vec<u8>> + '_ {
+    let lengths = cut(map).chain((1..=4).map(move |more| [map, &[0; 4][..more]].concat()));
+    altered(map).map(|Altered { bytes, .. }| bytes).chain(lengths)
 }
 
 /// A good map with nothing special in it: beside the registers that document 01
@@ -126,6 +139,51 @@ pub fn count(random: &mut Random) -> usize {
     }
 }
 
+/// One way in which an entry goes wrong, on any chip.
+#[derive(Clone, Copy, Debug, PartialEq, Eq)]
+pub enum Flaw {
+    UnknownKind,
+    BlankMask,
+    BlankDefault,
+    ReadOnlyMask,
+    ControlMask,
+    ControlDefault,
+    ControlElsewhere,
+    ControlMissing,
+}
+
+impl Flaw {
+    pub const ALL: [Flaw; 8] = [
+        Flaw::UnknownKind,
+        Flaw::BlankMask,
+        Flaw::BlankDefault,
+        Flaw::ReadOnlyMask,
+        Flaw::ControlMask,
+        Flaw::ControlDefault,
+        Flaw::ControlElsewhere,
+        Flaw::ControlMissing,
+    ];
+
+    /// Whether it is one where the chip has a control register, and not anywhere else.
+    pub fn is_of_control(self) -> bool {
+        matches!(self, Flaw::ControlMask | Flaw::ControlDefault | Flaw::ControlMissing)
+    }
+
+    /// An entry with this flaw; `some` is any byte but 0.
+    pub fn entry(self, random: &mut Random, some: u8) -> [u8; 3] {
+        match self {
+            Flaw::UnknownKind => [random.between(5, 255) as u8, 0, 0],
+            Flaw::BlankMask => [0, some, 0],
+            Flaw::BlankDefault => [0, 0, some],
+            Flaw::ReadOnlyMask => [1, some, 0x56],
+            Flaw::ControlMask => [4, some, 0],
+            Flaw::ControlDefault => [4, 0, some],
+            Flaw::ControlElsewhere => [4, 0, 0],
+            Flaw::ControlMissing => [random.below(4) as u8, 0, 0],
+        }
+    }
+}
+
 /// One way in which a map goes wrong.
 #[derive(Clone, Copy, Debug, PartialEq, Eq)]
 pub enum Damage {
@@ -143,14 +201,7 @@ pub enum Damage {
     FifteenRegisters,
     TooManyRegisters,
     // Number 3.
-    UnknownKind,
-    BlankMask,
-    BlankDefault,
-    ReadOnlyMask,
-    ControlMask,
-    ControlDefault,
-    ControlElsewhere,
-    ControlMissing,
+    Entry(Flaw),
     ReadOnlyPlace,
     BlankPlace,
     ScratchKind,
@@ -175,14 +226,14 @@ impl Damage {
         Damage::AnyCount,
         Damage::FifteenRegisters,
         Damage::TooManyRegisters,
-        Damage::UnknownKind,
-        Damage::BlankMask,
-        Damage::BlankDefault,
-        Damage::ReadOnlyMask,
-        Damage::ControlMask,
-        Damage::ControlDefault,
-        Damage::ControlElsewhere,
-        Damage::ControlMissing,
+        Damage::Entry(Flaw::UnknownKind),
+        Damage::Entry(Flaw::BlankMask),
+        Damage::Entry(Flaw::BlankDefault),
+        Damage::Entry(Flaw::ReadOnlyMask),
+        Damage::Entry(Flaw::ControlMask),
+        Damage::Entry(Flaw::ControlDefault),
+        Damage::Entry(Flaw::ControlElsewhere),
+        Damage::Entry(Flaw::ControlMissing),
         Damage::ReadOnlyPlace,
         Damage::BlankPlace,
         Damage::ScratchKind,
@@ -195,10 +246,12 @@ impl Damage {
 
     /// The number that refuses a good map with this damage alone.
     pub fn number(self) -> u8 {
-        if (self as usize) < Damage::UnknownKind as usize {
-            2
-        } else {
-            3
+        match self {
+            Damage::Entry(_) | Damage::ReadOnlyPlace | Damage::BlankPlace => 3,
+            Damage::ScratchKind | Damage::ScratchMask => 3,
+            Damage::VendorLow | Damage::VendorHigh => 3,
+            Damage::ProductZero | Damage::ProductOnes => 3,
+            _ => 2,
         }
     }
 
@@ -249,16 +302,7 @@ impl Damage {
         let some = random.between(1, 255) as u8;
         let unlike = |random: &mut Random, kind| (kind + random.between(1, 3) as u8) % 4;
         match self {
-            Damage::UnknownKind => (free, [random.between(5, 255) as u8, 0, 0]),
-            Damage::BlankMask => (random.pick(&[free, 0x0007, 0x000E]), [0, some, 0]),
-            Damage::BlankDefault => (random.pick(&[free, 0x0007, 0x000E]), [0, 0, some]),
-            Damage::ReadOnlyMask => (random.pick(&[free, 0x0003, 0x000B]), [1, some, 0x56]),
-            Damage::ControlMask => (random.pick(&[0x0000, 0x0001, 0x000F]), [4, some, 0]),
-            Damage::ControlDefault => (random.pick(&[0x0000, 0x0001, 0x000F]), [4, 0, some]),
-            Damage::ControlElsewhere => (random.pick(&[free, 0x0007, 0x000A]), [4, 0, 0]),
-            Damage::ControlMissing => {
-                (random.pick(&[0x0000, 0x0001, 0x000F]), [random.below(4) as u8, 0, 0])
-            }
+            Damage::Entry(flaw) => (flawed_place(random, flaw, free), flaw.entry(random, some)),
             Damage::ReadOnlyPlace => {
                 let address = random.pick(&[3, 4, 5, 6, 0x0B, 0x0C, 0x0D]);
                 let kept = map[entry_at(map, address) + 2];
@@ -287,6 +331,17 @@ fn free_address(random: &mut Random, map: &[u8]) -> usize {
     match beyond {
         0 => random.pick(&[0x0002, 0x0008, 0x0009]),
         _ => 15 + beyond,
+    }
+}
+
+/// Where an entry with this flaw is put.
+fn flawed_place(random: &mut Random, flaw: Flaw, free: usize) -> usize {
+    match flaw {
+        Flaw::UnknownKind => free,
+        Flaw::BlankMask | Flaw::BlankDefault => random.pick(&[free, 0x0007, 0x000E]),
+        Flaw::ReadOnlyMask => random.pick(&[free, 0x0003, 0x000B]),
+        Flaw::ControlElsewhere => random.pick(&[free, 0x0007, 0x000A]),
+        _ => random.pick(&[0x0000, 0x0001, 0x000F]),
     }
 }
 

@@ -6,6 +6,7 @@ pub mod calls;
 pub mod frames;
 pub mod maps;
 pub mod mends;
+pub mod near;
 pub mod older;
 pub mod orders;
 pub mod random;

@@ -2,7 +2,7 @@
 
 use super::maps::good_map;
 use super::random::Random;
-use super::words::any_words;
+use super::words::any_banks;
 use crate::chip::{settings_of, Chip};
 use second::sender::{send, Order};
 use second::session::{Session, CSB, SCLK};
@@ -13,9 +13,7 @@ use second::settings::Settings;
 pub fn chip_at_rest(random: &mut Random, settings: u64) -> Chip {
     let count = random.between(16, 48);
     let mut chip = Chip::opened(&good_map(random, count));
-    chip.active = random.bytes(count);
-    chip.buffer = random.bytes(count);
-    chip.words = any_words(random, count);
+    (chip.active, chip.buffer, chip.words) = any_banks(random, count);
     let others = [Settings::SDO_ACTIVE, Settings::BUFFER_READBACK];
     let at_will = others.into_iter().filter(|_| random.coin());
     let settings = at_will.fold(settings_of(settings), Settings::with);

@@ -2,16 +2,13 @@
 //! SCLK as in the sample before; for the first of a call, as the session last saw them.
 //! They are put into recordings, and left out.
 
-use super::calls::any_trace;
-use super::maps::{count, count_of, good_map};
+use super::calls::{any_trace, put_any_state};
+use super::maps::{count, good_map};
 use super::older::any_older;
 use super::older::maps::good_older_map;
-use super::older::sessions::sound_older_session;
 use super::random::Random;
-use super::sessions::sound_session;
-use super::words::any_words;
 use crate::calls::Given;
-use crate::layout::{from_bytes, to_bytes};
+use crate::layout::from_bytes;
 use second::session::{CSB, SCLK, SDIO, SDO};
 
 /// The lines that a repeated sample has as they were.
@@ -124,15 +121,7 @@ pub fn any_reading(random: &mut Random, length: usize) -> Given {
     };
     let mut given = Given::opened_by(older, &map);
     if random.coin() {
-        let count = count_of(&map);
-        let session = match older {
-            Some(older) => sound_older_session(random, older.top),
-            None => sound_session(random),
-        };
-        given.session = to_bytes(&session);
-        given.active = random.bytes(count);
-        given.buffer = random.bytes(count);
-        given.words = any_words(random, count);
+        put_any_state(random, &mut given);
     }
     given.samples = any_trace(random, older, &map, length);
     given

@@ -2,11 +2,7 @@
 
 use super::maps::{count_of, entry_at};
 use super::random::Random;
-
-const CSB: u8 = 1 << 0;
-const SCLK: u8 = 1 << 1;
-const SDIO: u8 = 1 << 2;
-const SDO: u8 = 1 << 3;
+use second::session::{CSB, SCLK, SDIO, SDO};
 
 /// How often each sample is recorded.
 #[derive(Clone, Copy)]

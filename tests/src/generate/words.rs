@@ -1,7 +1,12 @@
-//! Words of touched registers (document 02, Ask 7).
+//! Words of touched registers (document 02, Ask 7), and the banks beside them.
 
 use super::random::Random;
 use second::touched::words_for;
+
+/// Both banks of so many registers, and their words.
+pub fn any_banks(random: &mut Random, registers: usize) -> (Vec<u8>, Vec<u8>, Vec<u64>) {
+    (random.bytes(registers), random.bytes(registers), any_words(random, registers))
+}
 
 /// The words of so many registers, bits at that number and beyond among those set.
 pub fn any_words(random: &mut Random, registers: usize) -> Vec<u64> {

@@ -13,46 +13,11 @@ pub struct Lent<'a> {
     pub count: &'a mut u64,
 }
 
-#[cfg(host_library)]
-extern "C" {
-    fn couplingnut_read_several(
-        map: *const u8,
-        map_length: usize,
-        chips: *mut ChipInC,
-        chips_length: usize,
-        memory: *mut u8,
-        memory_length: usize,
-        samples: *const u8,
-        samples_length: usize,
-        records: *mut u8,
-        records_length: usize,
-        count: *mut u64,
-    ) -> u32;
-}
-
 /// The number.
-#[cfg(host_library)]
 pub fn read_several(lent: &mut Lent) -> Option<u32> {
-    // SAFETY: the pointers and lengths are those of slices and of a number, and what is
-    // written is borrowed for this call alone.
-    Some(unsafe {
-        couplingnut_read_several(
-            lent.map.as_ptr(),
-            lent.map.len(),
-            lent.chips.as_mut_ptr(),
-            lent.chips.len(),
-            lent.memory.as_mut_ptr(),
-            lent.memory.len(),
-            lent.samples.as_ptr(),
-            lent.samples.len(),
-            lent.records.as_mut_ptr(),
-            lent.records.len(),
-            lent.count,
-        )
-    })
-}
-
-#[cfg(not(host_library))]
-pub fn read_several(_: &mut Lent) -> Option<u32> {
-    None
+    let Lent { map, chips, memory, samples, records, count } = lent;
+    call_library!(couplingnut_read_several(
+        map: &[u8], chips: &mut [ChipInC], memory: &mut [u8], samples: &[u8],
+        records: &mut [u8], count: &mut u64
+    ))
 }

@@ -4,8 +4,8 @@
 use std::cell::RefCell;
 
 use super::{Given, Left};
-use crate::calls::lines;
-use crate::environment::{differ, Running};
+use crate::calls::{lines, names_of};
+use crate::environment::Running;
 use crate::guarded::{Against, Guarded};
 use crate::layout::CHIP_SIZE;
 use crate::library::several::{read_several, Lent};
@@ -117,25 +117,21 @@ impl Tally {
 
 /// A list of compared calls.
 pub struct Comparison {
-    /// The test, by its path.
-    subject: &'static str,
-    seed: u64,
-    memory: Memory,
     running: Running,
+    memory: Memory,
     pub tally: Tally,
 }
 
 impl Comparison {
-    pub fn new(subject: &'static str) -> Self {
-        let running = Running::new(subject);
-        Comparison { subject, seed: 0, memory: Memory::default(), running, tally: Tally::default() }
+    /// Of the test with this path.
+    pub fn new(test: &'static str) -> Self {
+        let (memory, tally) = (Memory::default(), Tally::default());
+        Comparison { running: Running::new(test), memory, tally }
     }
 
-    /// Begins the case of a seed. Memory lies mostly against the page after it.
+    /// Begins the case of a seed.
     pub fn begin(&mut self, seed: u64) {
-        self.seed = seed;
-        self.memory.against =
-            if seed.is_multiple_of(4) { Against::PageBefore } else { Against::PageAfter };
+        self.memory.against = Against::of_seed(seed);
         self.running.begin(seed);
     }
 
@@ -163,27 +159,25 @@ impl Comparison {
             found.count,
             expected.number,
             expected.count,
-            differing(found, expected).join(", "),
+            differing(found, expected),
             self.memory.against
         );
         let [found, expected] = [found, expected].map(listing_of_left);
         let listing =
             format!("given\n{}\nfound\n{found}\nexpected\n{expected}", listing_of_given(given));
-        differ(self.subject, self.seed, &told, &listing)
+        self.running.differ(&told, &listing)
     }
 }
 
-/// The names of what differs.
-fn differing(found: &Left, expected: &Left) -> Vec<&'static str> {
-    let parts = [
+fn differing(found: &Left, expected: &Left) -> String {
+    names_of(&[
         ("number", found.number != expected.number),
         ("count", found.count != expected.count),
         ("chips", found.chips != expected.chips),
         ("memory", found.memory != expected.memory),
         ("records", found.records != expected.records),
         ("map or samples", found.inputs_kept != expected.inputs_kept),
-    ];
-    parts.into_iter().filter(|(_, other)| *other).map(|(name, _)| name).collect()
+    ])
 }
 
 fn listing_of_given(given: &Given) -> String {

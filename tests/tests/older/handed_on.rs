@@ -1,5 +1,6 @@
 //! Sessions handed from chip to chip: no session names its part.
 
+use couplingnut_tests::by_hand::clocked;
 use couplingnut_tests::chip::Chip;
 use couplingnut_tests::generate::maps::{good_map, simple_map};
 use couplingnut_tests::generate::older::maps::{good_older_map, simple_older_map};
@@ -11,7 +12,7 @@ use second::older::{Older, Part};
 use second::session::{Phase, Session, CSB};
 use second::settings::Settings;
 
-use super::{bytes, clocked, instruction, simple_chip, AD9508};
+use super::{bytes, instruction, simple_chip, AD9508};
 
 const OTHER: Older = Older { part: Part::Ad9557, top: 0x002C };
 

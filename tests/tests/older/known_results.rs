@@ -1,10 +1,11 @@
 //! Known results of older chips: Figure 48 of document 002, and one each for count,
 //! stream, stall, top and address 0.
 
+use couplingnut_tests::by_hand::{clocked, frame};
 use couplingnut_tests::chip::sent_older;
 use second::sender::Order;
 
-use super::{clocked, frame, simple_chip, AD9508, AD9557};
+use super::{simple_chip, AD9508, AD9557};
 
 fn write_of(settings: u64, start: u64, data: &[u8]) -> Order<'_> {
     Order { direction: 0, settings, start, count: data.len() as u64, data }

@@ -4,33 +4,25 @@
 
 use couplingnut_tests::calls::{Call, Comparison, Given, Left};
 use couplingnut_tests::environment::number_from;
-use couplingnut_tests::generate::calls::{Chain, MOST_SAMPLES};
+use couplingnut_tests::generate::calls::{put_any_state, Chain};
 use couplingnut_tests::generate::older::maps::good_older_map;
-use couplingnut_tests::generate::older::sessions::{every_older_piece, sound_older_session};
+use couplingnut_tests::generate::older::sessions::every_older_piece;
 use couplingnut_tests::generate::older::traces::older_trace;
 use couplingnut_tests::generate::older::{any_older, PARTS};
 use couplingnut_tests::generate::random::Random;
 use couplingnut_tests::generate::sessions::with_every_setting;
 use couplingnut_tests::generate::traces::clocks;
-use couplingnut_tests::generate::words::any_words;
 use couplingnut_tests::guarded::Against;
-use couplingnut_tests::layout::{from_bytes, to_bytes};
+use couplingnut_tests::layout::from_bytes;
 use second::older::{Older, STREAMING};
 use second::reader::{most_records, RECORD};
 use second::session::{Phase, Session, CSB};
 
+use crate::calls::{compare_chains, compare_most_samples, compare_reading_on};
+use crate::next_record::{assert_state, one_after_another};
+
 /// The calls of a gate run, in lists.
 const CALLS: u64 = 200_000;
-/// The calls of one list, at most.
-const CHAIN: usize = 40;
-
-/// The page that this case's memory lies against: mostly the one after it.
-fn against(seed: u64) -> Against {
-    match seed % 4 {
-        0 => Against::PageBefore,
-        _ => Against::PageAfter,
-    }
-}
 
 /// How often done calls left a session of each kind: at rest, passing over, in an
 /// instruction, in counted data, in a stream, waiting.
@@ -53,33 +45,12 @@ impl Kinds {
     }
 }
 
-fn compare_chain(comparison: &mut Comparison, mut chain: Chain, kinds: &mut Kinds) {
-    for _ in 0..CHAIN {
-        if chain.is_over() {
-            break;
-        }
-        let (call, given) = chain.next_call();
-        let left = comparison.call(call, &given);
-        // A refused call left the session, the banks and the words that it was given.
-        if left.number == 0 {
-            kinds.note(&left);
-            chain.go_on(call, &given, &left);
-        }
-    }
-}
-
 #[test]
 fn lists_of_calls_agree() {
-    let (first, calls) = (number_from("SEED", 0), number_from("CALLS", CALLS).min(CALLS));
+    let calls = number_from("CALLS", CALLS).min(CALLS);
     let mut comparison = Comparison::new("older::lists::lists_of_calls_agree");
     let mut kinds = Kinds::default();
-    for seed in first.. {
-        if comparison.tally.calls >= calls {
-            break;
-        }
-        comparison.begin(seed, against(seed));
-        compare_chain(&mut comparison, Chain::older(seed), &mut kinds);
-    }
+    compare_chains(&mut comparison, calls, Chain::older, |left| kinds.note(left));
     if calls >= CALLS {
         let tally = &comparison.tally;
         tally.assert_numbers(Call::Open, &[0, 2, 3, 4, 12], 100);
@@ -94,16 +65,10 @@ fn lists_of_calls_agree() {
 /// is often none for another.
 #[test]
 fn lists_handed_from_chip_to_chip_agree() {
-    let (first, calls) = (number_from("SEED", 0), number_from("CALLS", CALLS / 2).min(CALLS / 2));
+    let calls = number_from("CALLS", CALLS / 2).min(CALLS / 2);
     let mut comparison = Comparison::new("older::lists::lists_handed_from_chip_to_chip_agree");
     let mut kinds = Kinds::default();
-    for seed in first.. {
-        if comparison.tally.calls >= calls {
-            break;
-        }
-        comparison.begin(seed, against(seed));
-        compare_chain(&mut comparison, Chain::handed_on(seed), &mut kinds);
-    }
+    compare_chains(&mut comparison, calls, Chain::handed_on, |left| kinds.note(left));
     if calls >= CALLS / 2 {
         comparison.tally.assert_numbers(Call::Read, &[0, 1, 2, 3, 4, 5, 6, 12, 16], 100);
         assert!(kinds.0.iter().all(|&times| times > 200), "{:?}", kinds.0);
@@ -122,20 +87,12 @@ fn sessions_of_every_kind_are_read_on() {
     });
     let sessions = every_older_piece().into_iter().flat_map(with_every_setting);
     for (seed, shape) in (0..).zip(sessions) {
-        comparison.begin(seed, against(seed));
+        comparison.begin(seed, Against::of_seed(seed));
         let mut random = Random::new(seed);
         let (older, map) = &chips[seed as usize / 2 % 2];
         let session = with_contents(&mut random, shape);
-        let mut given = Given::opened_by(Some(*older), map);
-        given.session = to_bytes(&session);
-        given.active = random.bytes(0x0018);
-        given.buffer = random.bytes(0x0018);
-        given.words = any_words(&mut random, 0x0018);
-        given.samples = clocks(&mut random, 50);
-        given.records = random.bytes(RECORD * 17);
-        for call in Call::READING {
-            assert_eq!(comparison.call(call, &given).number, 0, "{session:?}");
-        }
+        let given = Given::opened_by(Some(*older), map);
+        compare_reading_on(&mut comparison, &mut random, given, &session);
     }
     comparison.tally.assert_records(5, 50);
 }
@@ -156,33 +113,11 @@ fn any_reading(random: &mut Random, length: usize) -> Given {
     let older = any_older(random);
     let older = Older { top: older.top.min(0x0200), ..older };
     let mut given = Given::opened_by(Some(older), &good_older_map(random, older));
-    let count = given.active.len();
-    given.session = to_bytes(&sound_older_session(random, older.top));
-    given.active = random.bytes(count);
-    given.buffer = random.bytes(count);
-    given.words = any_words(random, count);
+    put_any_state(random, &mut given);
     given.samples =
         if random.one_in(4) { clocks(random, length) } else { older_trace(random, older, length) };
     given.records = random.bytes(RECORD * most_records(length));
     given
-}
-
-/// Calls for the next record until no sample is left: what the last one left, and all
-/// records.
-fn one_after_another(comparison: &mut Comparison, given: &Given) -> (Given, Vec<u8>) {
-    let mut now = Given { records: vec![0xEE; RECORD], ..given.clone() };
-    let mut records = Vec::new();
-    loop {
-        let left = comparison.call(Call::NextRecord, &now);
-        assert_eq!(left.number, 0);
-        now.go_on(&left);
-        now.samples.drain(..left.taken as usize);
-        if left.count == 0 {
-            assert!(now.samples.is_empty(), "without a record all samples were taken");
-            return (now, records);
-        }
-        records.extend(left.records);
-    }
 }
 
 /// The same samples at once, record by record, and in pieces, down to single samples.
@@ -191,7 +126,7 @@ fn however_it_is_cut_a_trace_is_read_the_same() {
     let mut comparison =
         Comparison::new("older::lists::however_it_is_cut_a_trace_is_read_the_same");
     for seed in 0..1_500 {
-        comparison.begin(seed, against(seed));
+        comparison.begin(seed, Against::of_seed(seed));
         let mut random = Random::new(seed);
         let length = random.between(0, 900);
         let given = any_reading(&mut random, length);
@@ -199,13 +134,12 @@ fn however_it_is_cut_a_trace_is_read_the_same() {
         assert_eq!(read.number, 0);
         let whole = &read.records[..RECORD * read.count as usize];
         let (after, records) = one_after_another(&mut comparison, &given);
-        assert_eq!((&records[..], after.session), (whole, read.session), "seed {seed}");
-        assert!(after.active == read.active && after.buffer == read.buffer, "seed {seed}");
-        assert_eq!(after.words, read.words, "seed {seed}");
+        assert_eq!(records, whole, "seed {seed}");
+        assert_state(&after, &read, seed);
 
         let longest = random.pick(&[1, 7, 60]);
         let mut now = given.clone();
-        let (mut records, mut rest) = (Vec::new(), &given.samples[..]);
+        let (mut records, mut rest) = (Vec::<u8>::new(), &given.samples[..]);
         while !rest.is_empty() {
             let (piece, later) = rest.split_at(random.between(1, longest).min(rest.len()));
             now.samples = piece.to_vec();
@@ -214,47 +148,19 @@ fn however_it_is_cut_a_trace_is_read_the_same() {
             now.go_on(&left);
             rest = later;
         }
-        assert_eq!((&records[..], now.session), (whole, read.session), "seed {seed}");
-        assert!(now.active == read.active && now.buffer == read.buffer, "seed {seed}");
-        assert_eq!(now.words, read.words, "seed {seed}");
+        assert_eq!(records, whole, "seed {seed}");
+        assert_state(&now, &read, seed);
     }
 }
 
-/// 65,536 samples, with as many records as they can have, and one more.
+/// 65,536 samples, and one more.
 #[test]
 fn the_most_samples_are_read_and_one_more_is_refused() {
     let mut comparison =
         Comparison::new("older::lists::the_most_samples_are_read_and_one_more_is_refused");
     let mut random = Random::new(2);
     for older in [Older { part: PARTS[0], top: 0x1FFF }, Older { part: PARTS[1], top: 0x002C }] {
-        let map = good_older_map(&mut random, older);
-        let cuts: Vec<u8> = [0x01, 0x00, 0x02].into_iter().cycle().take(MOST_SAMPLES + 1).collect();
-        let traffic = older_trace(&mut random, older, MOST_SAMPLES + 1);
-        for (seed, samples) in (0..).zip([cuts, traffic]) {
-            comparison.begin(seed, against(seed));
-            let mut given = Given::opened_by(Some(older), &map);
-            given.session = to_bytes(&Session {
-                levels: 0,
-                phase: Phase::Instruction,
-                bits: 1,
-                ..Session::opened()
-            });
-            given.samples = samples;
-            given.records = random.bytes(RECORD * 22_000);
-            for call in Call::READING {
-                assert_eq!(comparison.call(call, &given).number, 5);
-            }
-            given.samples.truncate(MOST_SAMPLES);
-            for call in Call::READING {
-                let left = comparison.call(call, &given);
-                assert_eq!(left.number, 0);
-                let exact = RECORD * left.count as usize;
-                let mut exactly = given.clone();
-                exactly.records.truncate(exact);
-                assert_eq!(comparison.call(call, &exactly).number, 0);
-                exactly.records.truncate(exact - 1);
-                assert_eq!(comparison.call(call, &exactly).number, 6);
-            }
-        }
+        let given = Given::opened_by(Some(older), &good_older_map(&mut random, older));
+        compare_most_samples(&mut comparison, &mut random, given);
     }
 }

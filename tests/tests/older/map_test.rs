@@ -2,10 +2,11 @@
 
 use couplingnut_tests::both::{map_test, map_test_older};
 use couplingnut_tests::generate::maps::{
-    entries_of, entry_at, good_map, map_of, set_entry, with_flags, Damage,
+    entries_of, entry_at, good_map, in_each_version, map_of, set_entry, with_flags, Damage, Flaw,
 };
+use couplingnut_tests::generate::near::{altered, cut, Altered};
 use couplingnut_tests::generate::older::maps::{
-    controls_of, good_older_map, simple_entries, simple_older_map, Flaw,
+    broken_older_entry, controls_of, good_older_map, simple_entries, simple_older_map,
 };
 use couplingnut_tests::generate::older::{another_top, any_older, some_olders, PARTS};
 use couplingnut_tests::generate::random::Random;
@@ -36,7 +37,7 @@ fn every_rule_broken_singly_has_its_number() {
         let flaw = random.pick(&Flaw::ALL);
         let mut map = good.clone();
         let count = older.top as usize + 1;
-        let (address, entry) = flaw.broken_entry(&mut random, older.part, count);
+        let (address, entry) = broken_older_entry(&mut random, flaw, older.part, count);
         set_entry(&mut map, address, entry);
         assert_eq!(map_test_older(older, &map), 3, "{flaw:?} at {address:#06X}");
         let heads = Damage::ALL.into_iter().filter(|damage| damage.number() == 2);
@@ -140,11 +141,9 @@ fn the_numbers_have_their_order() {
         let older = any_older(&mut random);
         let mut map = good_older_map(&mut random, older);
         if breaks(1) {
-            let (address, entry) = random.pick(&Flaw::ALL).broken_entry(
-                &mut random,
-                older.part,
-                older.top as usize + 1,
-            );
+            let flaw = random.pick(&Flaw::ALL);
+            let count = older.top as usize + 1;
+            let (address, entry) = broken_older_entry(&mut random, flaw, older.part, count);
             set_entry(&mut map, address, entry);
         }
         if breaks(0) {
@@ -162,16 +161,13 @@ fn the_numbers_have_their_order() {
 fn every_byte_and_length_is_looked_at() {
     for part in PARTS {
         let older = Older { part, top: 0x0010 };
-        let old = simple_older_map(older);
-        for map in [old.clone(), with_flags(&old, 0), with_flags(&old, 1)] {
-            for (at, value) in (0..map.len()).flat_map(|at| (0..=255).map(move |v| (at, v))) {
-                let mut changed = map.clone();
-                changed[at] = value;
+        for map in in_each_version(&simple_older_map(older)) {
+            for Altered { at, value, bytes } in altered(&map) {
                 let expected = number_with(part, &map, at, value);
-                assert_eq!(map_test_older(older, &changed), expected, "byte {at} is {value:#04X}");
+                assert_eq!(map_test_older(older, &bytes), expected, "byte {at} is {value:#04X}");
             }
-            for length in 0..map.len() {
-                assert_eq!(map_test_older(older, &map[..length]), 2);
+            for short in cut(&map) {
+                assert_eq!(map_test_older(older, &short), 2);
             }
             for more in 1..=4 {
                 assert_eq!(map_test_older(older, &[&map[..], &vec![2; more]].concat()), 2);

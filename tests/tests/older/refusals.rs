@@ -2,92 +2,51 @@
 //! byte of a session, banks, tops and room.
 
 use couplingnut_tests::calls::{Call, Comparison, Given};
-use couplingnut_tests::generate::calls::{spoil, Wrong};
+use couplingnut_tests::generate::calls::Wrong;
 use couplingnut_tests::generate::older::maps::{good_older_map, simple_older_map};
 use couplingnut_tests::generate::older::sessions::{
     every_older_piece, sound_older_session, unsound_older_sessions,
 };
-use couplingnut_tests::generate::older::traces::older_trace;
 use couplingnut_tests::generate::older::{another_top, any_older, PARTS};
 use couplingnut_tests::generate::random::Random;
-use couplingnut_tests::generate::words::any_words;
 use couplingnut_tests::guarded::Against;
-use couplingnut_tests::layout::{to_bytes, FLAGS, LEFT_AT, PHASE_AT, SESSION_SIZE, VERSION};
+use couplingnut_tests::layout::{to_bytes, LEFT_AT};
 use second::older::Older;
-use second::reader::{most_records, RECORD};
-use second::session::Session;
+
+use crate::refusals::{
+    compare_bytes, compare_reasons, compare_rooms, makes_no_session, with_a_record,
+};
 
 /// A call that is done and has a record.
 fn good_call(random: &mut Random) -> Given {
     let older = any_older(random);
     let older = Older { top: older.top.min(0x0040), ..older };
-    let mut given = Given::opened_by(Some(older), &good_older_map(random, older));
-    let count = given.active.len();
-    given.active = random.bytes(count);
-    given.buffer = random.bytes(count);
-    given.words = any_words(random, count);
-    // A bit of an instruction, and the cut; then anything.
-    given.samples = vec![0x00, 0x02, 0x01];
-    let length = random.between(0, 200);
-    given.samples.extend(older_trace(random, older, length));
-    given.records = random.bytes(RECORD * most_records(given.samples.len()));
-    given
+    let given = Given::opened_by(Some(older), &good_older_map(random, older));
+    with_a_record(random, given)
 }
 
-/// Calls that nothing refuses, with records, and then every set of reasons: 1, 2, 3,
-/// 4, 12, 16, 5, 6.
+/// Every set of reasons: 1, 2, 3, 4, 12, 16, 5, 6.
 #[test]
 fn twelve_comes_after_4_and_before_5() {
     let mut comparison = Comparison::new("older::refusals::twelve_comes_after_4_and_before_5");
-    for seed in 0..256 * 60 {
-        let mut random = Random::new(seed);
-        comparison.begin(seed, Against::PageAfter);
-        let wrongs: Vec<Wrong> =
-            (0..).zip(Wrong::OLDER).filter(|(i, _)| seed >> i & 1 == 1).map(|(_, w)| w).collect();
-        let first = wrongs.first().map_or(0, |wrong| wrong.number());
-        for call in Call::READING {
-            let mut given = good_call(&mut random);
-            spoil(&mut random, call, &mut given, &wrongs);
-            assert_eq!(comparison.call(call, &given).number, first, "{wrongs:?}");
-        }
-        let of_opening = [Wrong::MapForm, Wrong::MapEntry, Wrong::Banks, Wrong::Top];
-        let first = wrongs.iter().find(|wrong| of_opening.contains(wrong));
-        let mut given = good_call(&mut random);
-        spoil(&mut random, Call::Read, &mut given, &wrongs);
-        let left = comparison.call(Call::Open, &given);
-        assert_eq!(left.number, first.map_or(0, |wrong| wrong.number()), "{wrongs:?}");
-        assert_eq!(left.session, to_bytes(&Session::opened()));
-    }
+    compare_reasons(&mut comparison, &Wrong::OLDER, 60, good_call);
     let tally = &comparison.tally;
     tally.assert_numbers(Call::Read, &[0, 1, 2, 3, 4, 5, 6, 12, 16], 50);
     tally.assert_numbers(Call::Open, &[0, 2, 3, 4, 12], 50);
 }
 
-/// Every byte of a session takes every value, alone, from sessions in every piece;
-/// the bytes left have only values that are sound or not.
+/// Every byte of sessions in every piece takes every value, alone; the bytes left have only
+/// values that are sound or not.
 #[test]
 fn every_byte_of_a_session_is_looked_at() {
     let mut comparison = Comparison::new("older::refusals::every_byte_of_a_session_is_looked_at");
     for (seed, piece) in (0..).zip(every_older_piece()) {
         comparison.begin(seed, Against::PageAfter);
         let older = Older { part: PARTS[seed as usize % 2], top: 0x0011 };
-        let mut given = Given::opened_by(Some(older), &simple_older_map(older));
-        given.samples = vec![0x00, 0x02, 0x03];
-        given.records = vec![0xEE; 2 * RECORD];
-        let sound = to_bytes(&piece);
-        for (at, value) in (0..SESSION_SIZE).flat_map(|at| (0..=255).map(move |v| (at, v))) {
-            given.session = sound;
-            given.session[at] = value;
-            let no_session = at == 0 && value != VERSION
-                || at == PHASE_AT && value > 2
-                || FLAGS.contains(&at) && value > 1
-                || at == LEFT_AT && value > 4;
-            for call in Call::READING {
-                let left = comparison.call(call, &given);
-                assert!(left.number == 1 || !no_session, "byte {at} is {value}");
-                assert!(left.number <= 1, "nothing else is wrong");
-            }
-        }
+        let given = Given::opened_by(Some(older), &simple_older_map(older));
+        compare_bytes(&mut comparison, given, &piece, |at, value| {
+            makes_no_session(at, value) || at == LEFT_AT && value > 4
+        });
     }
     comparison.tally.assert_numbers(Call::Read, &[0, 1], 1_000);
 }
@@ -156,21 +115,8 @@ fn both_banks_have_to_fit() {
     }
 }
 
-/// Every room from none to more than enough, filled with noise.
+/// Every room from none to more than enough.
 #[test]
 fn the_room_that_is_needed_is_exact() {
-    let mut comparison = Comparison::new("older::refusals::the_room_that_is_needed_is_exact");
-    for seed in 0..1_500 {
-        comparison.begin(seed, Against::PageAfter);
-        let mut random = Random::new(seed);
-        let mut given = good_call(&mut random);
-        for call in Call::READING {
-            let needed = RECORD * given.records_due(call);
-            for room in [0, 1, RECORD, needed - 1, needed, needed + 1, needed + 50] {
-                given.records = random.bytes(room);
-                let expected = if room < needed { 6 } else { 0 };
-                assert_eq!(comparison.call(call, &given).number, expected, "{room} of {needed}");
-            }
-        }
-    }
+    compare_rooms("older::refusals::the_room_that_is_needed_is_exact", good_call);
 }

@@ -1,6 +1,7 @@
 //! Runs of an older chip: what an instruction says, where a run ends, and what a
 //! rise of the select cuts.
 
+use couplingnut_tests::by_hand::{clocked, clocked_number};
 use couplingnut_tests::chip::Chip;
 use couplingnut_tests::generate::older::{some_olders, PARTS};
 use couplingnut_tests::generate::random::Random;
@@ -9,9 +10,7 @@ use second::older::Older;
 use second::session::{Phase, Session, CSB, SCLK};
 use second::settings::Settings;
 
-use super::{
-    addresses, bytes, clocked, instruction, number_bits, simple_chip, AD9508, AD9557, STREAMING,
-};
+use super::{addresses, bytes, instruction, simple_chip, AD9508, AD9557, STREAMING};
 
 /// The session that passes over bits: the zeros of rest, with the select low.
 fn passing(chip: &Chip, clock: u8) -> Session {
@@ -39,7 +38,7 @@ fn after_instruction(chip: &Chip, word: u16) -> Session {
 
 fn assert_instruction(chip: &Chip, word: u16, lsb_first: bool) {
     let mut taken = chip.clone();
-    let samples = [&[0x00][..], &number_bits(word, 16, lsb_first)].concat();
+    let samples = [&[0x00][..], &clocked_number(word, 16, lsb_first)].concat();
     assert_eq!(taken.read(&samples), [""; 0]);
     assert_eq!(taken.session, after_instruction(chip, word), "{word:#06X} to {:?}", chip.older);
 }

@@ -2,18 +2,19 @@
 //! reading them back gives what was ordered.
 
 use couplingnut_tests::both::{send_older, try_send_older};
+use couplingnut_tests::by_hand::frame;
 use couplingnut_tests::chip::{sent_older, Chip};
-use couplingnut_tests::environment::{differ, number_from};
 use couplingnut_tests::generate::older::maps::good_older_map;
 use couplingnut_tests::generate::older::orders::{older_addresses, older_at_rest};
 use couplingnut_tests::generate::older::{another_top, any_older, TOPS};
 use couplingnut_tests::generate::random::Random;
-use couplingnut_tests::library;
+use couplingnut_tests::made::{assert_agreed, made_in};
+use couplingnut_tests::tally::assert_numbers;
 use second::older::Older;
 use second::sender::Order;
 use second::settings::Settings;
 
-use super::{bytes, frame, instruction, STREAMING};
+use super::{bytes, instruction, STREAMING};
 
 const ORDERS: u64 = 100_000;
 const GOOD: Order = Order { direction: 0, settings: 0, start: 0x0010, count: 1, data: &[0x3C] };
@@ -23,13 +24,7 @@ const TOP: u64 = 0x002C;
 const WIDE: [u64; 7] = [1 << 8, 1 << 16, (1 << 16) + 1, 1 << 32, (1 << 32) + 1, 1 << 63, u64::MAX];
 
 fn number(top: u64, order: &Order, room: usize) -> u8 {
-    let mut outgoing = vec![0xEE; room];
-    let answer = send_older(top, order, &mut outgoing);
-    if answer.number != 0 {
-        assert_eq!(answer.count, 0, "a refusal returns 0 samples");
-        assert!(outgoing.iter().all(|&byte| byte == 0xEE), "a refusal leaves the buffer");
-    }
-    answer.number
+    made_in(&vec![0xEE; room], |out| send_older(top, order, out)).err().unwrap_or(0)
 }
 
 /// 12 first, then 7, 8, 9 and 11; 10 is never given.
@@ -252,32 +247,20 @@ fn any_order<'a>(random: &mut Random, bytes: &'a [u8]) -> (u64, Order<'a>, usize
 /// The library on orders with nothing, one thing or several things wrong.
 #[test]
 fn the_library_agrees_on_good_and_damaged_orders() {
-    library::assert_present();
-    let mut given = [0; 13];
-    let first = number_from("SEED", 0);
-    let orders = number_from("CALLS", ORDERS).min(ORDERS);
-    for seed in first..first + orders {
+    let test = "older::sender::the_library_agrees_on_good_and_damaged_orders";
+    assert_agreed(test, ORDERS, assert_reached, |seed| {
         let mut random = Random::new(seed);
         let bytes = random.bytes(1_001);
         let (top, order, room) = any_order(&mut random, &bytes);
-        match try_send_older(top, &order, &vec![0xEE; room]) {
-            Ok((answer, _)) => given[usize::from(answer.number)] += 1,
-            Err(difference) => {
-                let listing = format!("top {top:#X}, {order:X?} in {room} bytes\n");
-                let subject = "older::sender::the_library_agrees_on_good_and_damaged_orders";
-                differ(subject, seed, &difference, &listing)
-            }
-        }
-    }
-    if orders == ORDERS {
-        assert_reached(&given);
-    }
+        let agreed = try_send_older(top, &order, &vec![0xEE; room]);
+        agreed.map_err(|told| (told, format!("top {top:#X}, {order:X?} in {room} bytes\n")))
+    });
 }
 
 /// That the generated orders reach every number.
 #[test]
 fn generated_orders_reach_every_number() {
-    let mut given = [0; 13];
+    let mut given = [0; 20];
     for seed in 0..ORDERS / 10 {
         let mut random = Random::new(seed);
         let bytes = random.bytes(1_001);
@@ -287,9 +270,6 @@ fn generated_orders_reach_every_number() {
     assert_reached(&given);
 }
 
-fn assert_reached(given: &[u64; 13]) {
-    for (number, &times) in given.iter().enumerate() {
-        let reached = [0, 7, 8, 9, 11, 12].contains(&number);
-        assert!(if reached { times >= 200 } else { times == 0 }, "{number}: {times} times");
-    }
+fn assert_reached(given: &[u64]) {
+    assert_numbers("the older sender", given, &[0, 7, 8, 9, 11, 12], 200);
 }

@@ -1,5 +1,6 @@
 //! Stalls: unless streaming, the select may rise before any byte of a run.
 
+use couplingnut_tests::by_hand::clocked;
 use couplingnut_tests::chip::Chip;
 use couplingnut_tests::generate::older::maps::good_older_map;
 use couplingnut_tests::generate::older::{any_older, PARTS};
@@ -8,7 +9,7 @@ use second::older::Older;
 use second::session::{Phase, Session, CSB, SCLK};
 use second::settings::Settings;
 
-use super::{bytes, clocked, instruction, simple_chip, AD9508, AD9557};
+use super::{bytes, instruction, simple_chip, AD9508, AD9557};
 
 /// So many rises and falls, one after the other. At a fall the clock is low, or it
 /// moves with the select or stays high.

@@ -9,6 +9,7 @@ use second::reader::RECORD;
 use second::session::Session;
 
 use super::{begun, byte, flagged_chip, frame, moved, number, read_from, single_chip, write_to};
+use crate::calls::compare_chain;
 
 /// A frame of several instructions: a plain write, a buffered one, reads that find
 /// the active byte as it was, and a buffered byte broken off.
@@ -142,22 +143,13 @@ fn lists_of_calls_on_two_maps_agree() {
     let mut ends = [[0; 2]; 2];
     for seed in 0..6_000 {
         comparison.begin(seed, Against::PageAfter);
-        let mut chain = Chain::of_two_flags(seed);
-        for _ in 0..20 {
-            if chain.is_over() {
-                break;
-            }
-            let (call, given) = chain.next_call();
-            let left = comparison.call(call, &given);
-            if left.number != 0 {
-                continue;
-            }
+        let chain = Chain::of_two_flags(seed);
+        compare_chain(&mut comparison, chain, 20, |call, given, left| {
             if call != Call::Open && given.session[ARMED_AT] == 1 && left.session[ARMED_AT] == 0 {
                 let is_moved = left.active != given.active;
                 ends[usize::from(given.map[5])][usize::from(is_moved)] += 1;
             }
-            chain.go_on(call, &given, &left);
-        }
+        });
     }
     comparison.tally.assert_numbers(Call::Read, &[0, 1, 2, 3, 4, 5, 6, 16], 200);
     // Without the flag what changes is a plain register, and with it none may wait.

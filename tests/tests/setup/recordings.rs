@@ -1,20 +1,12 @@
 //! The recording of a list: what it is, and what reading it back gives.
 
+use couplingnut_tests::by_hand::frame;
 use couplingnut_tests::chip::{sent, settings_of, Chip};
 use couplingnut_tests::generate::maps::{good_map, simple_map};
 use couplingnut_tests::generate::random::Random;
 use couplingnut_tests::generate::setups::{good_setup, list_of, samples_of, Listed};
 
 use super::{recorded, ROOMY};
-
-/// The samples of these bits as one frame.
-fn frame(bits: &str) -> Vec<u8> {
-    let clocked = bits.bytes().filter(|bit| bit.is_ascii_digit()).flat_map(|bit| match bit {
-        b'0' => [0x00, 0x02],
-        _ => [0x04, 0x06],
-    });
-    [0x00].into_iter().chain(clocked).chain([0x00, 0x01]).collect()
-}
 
 #[test]
 fn two_orders_by_hand() {

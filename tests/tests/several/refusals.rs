@@ -3,18 +3,18 @@
 
 use couplingnut_tests::generate::calls::MOST_SAMPLES;
 use couplingnut_tests::generate::maps::{good_map, simple_map, Damage};
+use couplingnut_tests::generate::near::{altered, Altered};
 use couplingnut_tests::generate::random::Random;
 use couplingnut_tests::generate::sessions::every_piece;
 use couplingnut_tests::generate::several::{any_call, any_list, any_wire, spoil, Wrong};
-use couplingnut_tests::layout::{
-    to_bytes, ARMED_AT, FLAGS, LEFT_AT, PHASE_AT, SESSION_SIZE, VERSION,
-};
+use couplingnut_tests::layout::to_bytes;
 use couplingnut_tests::library;
 use couplingnut_tests::several::{Comparison, Given, Sample};
 use second::session::{Phase, Session};
 use second::several::RECORD;
 
 use super::{opened, with_wire};
+use crate::refusals::makes_unsound;
 
 /// A call that is done and has a record.
 fn good_call(random: &mut Random) -> Given {
@@ -84,19 +84,12 @@ fn assert_every_byte_counts(
     piece: Session,
 ) {
     let mut given = given.clone();
-    for at in 0..SESSION_SIZE {
-        for value in 0..=255 {
-            given.chips[number].session = to_bytes(&piece);
-            given.chips[number].session[at] = value;
-            let refused = at == 0 && value != VERSION
-                || at == PHASE_AT && value > 2
-                || FLAGS.contains(&at) && value > 1
-                || at == ARMED_AT && value != 0 && piece.phase == Phase::Rest
-                || at == LEFT_AT && value != 0;
-            let left = comparison.call(&given);
-            assert!(left.number == 1 || !refused, "byte {at} is {value}");
-            assert!(left.number <= 1, "nothing else is wrong");
-        }
+    for Altered { at, value, bytes } in altered(&to_bytes(&piece)) {
+        given.chips[number].session = bytes.try_into().expect("a session's size");
+        let left = comparison.call(&given);
+        let refused = makes_unsound(at, value, piece.phase);
+        assert!(left.number == 1 || !refused, "byte {at} is {value}");
+        assert!(left.number <= 1, "nothing else is wrong");
     }
 }
 

@@ -5,7 +5,7 @@ use couplingnut_tests::chip::{sent, sent_older, settings_of, Chip};
 use couplingnut_tests::generate::maps::good_map;
 use couplingnut_tests::generate::older::maps::good_older_map;
 use couplingnut_tests::generate::random::Random;
-use couplingnut_tests::generate::words::any_words;
+use couplingnut_tests::generate::words::any_banks;
 use second::older::{Older, Part};
 use second::sender::Order;
 use second::session::{Session, CSB};
@@ -20,8 +20,7 @@ fn chip_of_words(random: &mut Random, older: Option<Part>, settings: u64) -> Chi
     };
     let mut chip = Chip::opened_by(older, &map);
     chip.session = Session { settings: settings_of(settings), ..Session::opened() };
-    (chip.active, chip.buffer) = (random.bytes(count), random.bytes(count));
-    chip.words = any_words(random, count);
+    (chip.active, chip.buffer, chip.words) = any_banks(random, count);
     chip
 }
 

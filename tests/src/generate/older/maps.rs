@@ -1,6 +1,6 @@
 //! Maps of older chips, good ones and ones with an entry broken.
 
-use crate::generate::maps::{in_any_version, map_of};
+use crate::generate::maps::{in_any_version, map_of, Flaw};
 use crate::generate::random::Random;
 use second::older::{Older, Part};
 
@@ -49,47 +49,17 @@ fn free_entry(random: &mut Random) -> [u8; 3] {
     }
 }
 
-/// One way in which an entry goes wrong.
-#[derive(Clone, Copy, Debug, PartialEq, Eq)]
-pub enum Flaw {
-    UnknownKind,
-    BlankMask,
-    BlankDefault,
-    ReadOnlyMask,
-    ControlMask,
-    ControlDefault,
-    ControlElsewhere,
-    ControlMissing,
-}
-
-impl Flaw {
-    pub const ALL: [Flaw; 8] = [
-        Flaw::UnknownKind,
-        Flaw::BlankMask,
-        Flaw::BlankDefault,
-        Flaw::ReadOnlyMask,
-        Flaw::ControlMask,
-        Flaw::ControlDefault,
-        Flaw::ControlElsewhere,
-        Flaw::ControlMissing,
-    ];
-
-    /// The entry that breaks a rule of this part, and where in so many registers.
-    pub fn broken_entry(self, random: &mut Random, part: Part, count: usize) -> (usize, [u8; 3]) {
-        let control = random.pick(controls_of(part));
-        let free = free_address(random, part, count);
-        let some = random.between(1, 255) as u8;
-        match self {
-            Flaw::UnknownKind => (free, [random.between(5, 255) as u8, 0, 0]),
-            Flaw::BlankMask => (free, [0, some, 0]),
-            Flaw::BlankDefault => (free, [0, 0, some]),
-            Flaw::ReadOnlyMask => (free, [1, some, 0x56]),
-            Flaw::ControlMask => (control, [4, some, 0]),
-            Flaw::ControlDefault => (control, [4, 0, some]),
-            Flaw::ControlElsewhere => (free, [4, 0, 0]),
-            Flaw::ControlMissing => (control, [random.below(4) as u8, 0, 0]),
-        }
-    }
+/// An entry with this flaw, and where in so many registers of this part.
+pub fn broken_older_entry(
+    random: &mut Random,
+    flaw: Flaw,
+    part: Part,
+    count: usize,
+) -> (usize, [u8; 3]) {
+    let control = random.pick(controls_of(part));
+    let free = free_address(random, part, count);
+    let some = random.between(1, 255) as u8;
+    (if flaw.is_of_control() { control } else { free }, flaw.entry(random, some))
 }
 
 /// An address without a control entry, often one that a newer chip or the other

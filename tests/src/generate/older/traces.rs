@@ -4,11 +4,7 @@
 use crate::generate::random::Random;
 use crate::generate::traces::{any_glitch, noise, resampled, Sampling};
 use second::older::Older;
-
-const CSB: u8 = 1 << 0;
-const SCLK: u8 = 1 << 1;
-const SDIO: u8 = 1 << 2;
-const SDO: u8 = 1 << 3;
+use second::session::{CSB, SCLK, SDIO, SDO};
 
 /// The length field of a run that streams.
 const STREAMING: u16 = 3;
