@@ -11,6 +11,7 @@ mod guarded;
 mod host;
 mod known_results;
 mod layout;
+mod lengths;
 mod map_test;
 mod mend;
 mod next_record;
