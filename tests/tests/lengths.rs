@@ -34,7 +34,9 @@ fn bodies(text: &str) -> Vec<(&str, usize)> {
             word.is_empty() || word.starts_with("pub") || ["extern", "\"C\""].contains(&word)
         });
         let name = after.split(['(', '<']).next().unwrap_or("");
-        let opens = |l: &str| l == format!("{indent}{{") || l.ends_with(") {");
+        // The body opens on a line of its own after a contract, else where the head ends.
+        let ends_head = |l: &str| l == *line || l.starts_with(&format!("{indent})"));
+        let opens = |l: &str| l == format!("{indent}{{") || ends_head(l) && l.ends_with(" {");
         let closes = |l: &str| l == format!("{indent}}}");
         let rest = || lines[at..].iter();
         if let (true, Some(open), Some(close)) =
@@ -72,6 +74,9 @@ fn no_function_of_the_proved_code_has_40_lines() {
 
 #[test]
 fn a_long_body_is_seen() {
-    let text = "pub fn long(x: u8) -> u8\n    ensures { of x }\n{\n    1\n    2\n    3\n}\n\nfn short() {\n    1\n}\n";
-    assert_eq!(bodies(text), [("long", 3), ("short", 1)]);
+    let contract = "pub fn long(x: u8) -> u8\n    ensures { of x }\n{\n    1\n    2\n    3\n}\n";
+    let plain = "fn plain() -> bool {\n    if a() {\n    }\n}\n";
+    let wide = "fn wide(\n    x: u8,\n) -> bool {\n    true\n}\n";
+    let found = [contract, plain, wide].map(|text| bodies(text)[0]);
+    assert_eq!(found, [("long", 3), ("plain", 2), ("wide", 1)]);
 }

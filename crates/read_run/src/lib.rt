@@ -61,7 +61,7 @@ fn run_end(s: ScanPort, told: EventOutcome) -> RunEnd
 }
 
 // Reads samples; or only counts their records where none is put. This is the one hot loop. Every way through it ends at its last line, and
-// each part that takes a turn's time has no other caller, so that the compiler keeps what it holds in registers.
+// what it calls is small or has no other caller: how it is cut decides how fast it is (docs/decisions/layout.md).
 pub fn run_samples(
     chip: Chip,
     storing: bool,
