@@ -1,4 +1,6 @@
 // Single bits of bytes and of the values that travel on the bus.
+#![tactic(auto)]
+
 ghost use Rattle.std.specs.Prelude.{◌≡◌, ◌^◌, ◌<◌};
 ghost use Rattle.base_bits.specs.Bits.{bit_at, merged, shifted_in};
 

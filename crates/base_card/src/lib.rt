@@ -1,4 +1,6 @@
 // The turning of a byte, read from the technicians' card.
+#![tactic(auto)]
+
 ghost use Rattle.std.specs.Prelude.{◌≡◌, cond};
 ghost use Rattle.base_card.specs.Card.{turned, IsCard, is_mirror};
 

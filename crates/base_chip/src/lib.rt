@@ -1,4 +1,6 @@
 // The chips that are read and sent to: the newer ones, and the older clock chips (document 02, Ask 1).
+#![tactic(auto)]
+
 ghost use Rattle.std.specs.Prelude.{◌≡◌};
 ghost use Rattle.base_chip.specs.Chip.{is_newer, part_reads_buffer, reads_buffer, top_good};
 
@@ -17,14 +19,14 @@ pub const READBACK_CONTROL: u16 = 0x0004;
 pub const OLDER_TRANSFER: u16 = 0x0005;
 
 // The older parts. They differ in one thing: the AD9557 can read the buffer stage.
-#[derive(Drop)]
+#[derive(Clone, Copy)]
 pub enum Part {
     Ad9557,
     Ad9508,
 }
 
 // A newer chip, or an older part with the highest address that it has. The address is as wide as a caller can name it.
-#[derive(Drop)]
+#[derive(Clone, Copy)]
 pub enum Chip {
     Newer,
     Older { part: Part, top: u64 },

@@ -1,4 +1,6 @@
 // The numbers that calls give back, each under the name that it has in C. What they mean, and in which order they come, the definitions say.
+#![tactic(auto)]
+
 pub const DONE: u8 = 0;
 
 pub const BAD_SESSION: u8 = 1;

@@ -22,7 +22,7 @@ pub const SDO: u8 = 3;
 // The bytes left where a run of an older chip streams.
 pub const STREAMS: u8 = 4;
 
-#[derive(Drop)]
+#[derive(Clone, Copy)]
 pub enum Phase {
     // With CSB high; or with CSB low, where an older chip passes bits over.
     Rest,
@@ -31,7 +31,7 @@ pub enum Phase {
 }
 
 // What the samples alone decide.
-#[derive(Drop)]
+#[derive(Clone, Copy)]
 pub struct Port {
     // The last levels of CSB and SCLK.
     pub csb: bool,
@@ -48,7 +48,7 @@ pub struct Port {
     pub left: u8,
 }
 
-#[derive(Drop)]
+#[derive(Clone, Copy)]
 pub struct Session {
     pub port: Port,
     // Whether the end of this frame moves the buffered registers: a whole byte of it went to one of them.
@@ -56,7 +56,7 @@ pub struct Session {
 }
 
 // What a sample completes.
-#[derive(Drop)]
+#[derive(Clone, Copy)]
 pub enum Event {
     Nothing,
     // A whole byte of data at an address.

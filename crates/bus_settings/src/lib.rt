@@ -1,5 +1,7 @@
 // The settings of the serial control interface: the five of a session, the four that an instruction has in use, those that count on a
 // chip, and which way they send the address. What a write to a control register makes of them, and what it reads as, is in control.rt.
+#![tactic(auto)]
+
 ghost use Rattle.std.specs.Prelude.{◌≡◌, ◌<◌};
 ghost use Rattle.bus_settings.specs.Settings.{all_clear, none_in_use, in_use_of, counting, next_address};
 
@@ -8,7 +10,7 @@ mod control;
 use base_chip::Chip;
 pub use control::{SLOW_BIT, asks_reset, transfers_at};
 
-#[derive(Drop)]
+#[derive(Clone, Copy)]
 pub struct Settings {
     pub lsb_first: bool,
     pub ascending: bool,
@@ -18,7 +20,7 @@ pub struct Settings {
 }
 
 // The settings in use: those that an instruction took when it started.
-#[derive(Drop)]
+#[derive(Clone, Copy)]
 pub struct InUse {
     pub lsb_first: bool,
     pub ascending: bool,

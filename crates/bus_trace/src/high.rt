@@ -6,7 +6,7 @@ ghost use Rattle.bus_trace.specs.Scan.{Rested};
 use bus_words::{highs, level_at, lows, word_at};
 
 // Where CSB falls, or the end, and the level of SCLK before it.
-#[derive(Drop)]
+#[derive(Clone, Copy)]
 pub(crate) struct Past {
     pub(crate) at: usize,
     pub(crate) level: u8,

@@ -14,7 +14,7 @@ use base_chip::Chip;
 use bus_session::{Event, Port};
 
 // An event, or nothing at the end of the samples; the port after it, and the place of the next sample.
-#[derive(Drop)]
+#[derive(Clone, Copy)]
 pub struct NextEvent {
     pub event: Event,
     pub port: Port,

@@ -16,7 +16,7 @@ const DENSE: u64 = 0x0200_0200_0200_0200;
 
 // What samples without an event change of a port, the level of SCLK (0 or 2), the bits taken and their value; and the place
 // of the next sample.
-#[derive(Drop)]
+#[derive(Clone, Copy)]
 pub struct Progress {
     pub level: u8,
     pub bits: u8,
@@ -25,7 +25,7 @@ pub struct Progress {
 }
 
 // The bits taken of eight samples, their value, and the rises that are left.
-#[derive(Drop)]
+#[derive(Clone, Copy)]
 struct Bits {
     bits: u8,
     value: u16,

@@ -1,4 +1,6 @@
 // Eight samples at a time, as one number: the first sample is its lowest byte.
+#![tactic(auto)]
+
 ghost use Rattle.std.specs.Prelude.{◌≡◌, ◌+◌, ◌<◌, ◌≤◌, length};
 ghost use Rattle.base_bits.specs.Bits.{bit_at};
 ghost use Rattle.bus_words.specs.Words.{word_of};

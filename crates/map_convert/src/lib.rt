@@ -12,7 +12,7 @@ use map_format::{
 use map_test::map_test;
 
 // What a call of the converter answers: the number, and how many bytes it put.
-#[derive(Drop)]
+#[derive(Clone, Copy)]
 pub struct Converted {
     pub number: u8,
     pub length: usize,

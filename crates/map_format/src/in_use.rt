@@ -41,7 +41,7 @@ fn default_at(map: &[u8], count: usize, address: usize) -> u8
 }
 
 // The lent bytes of a map, and n.
-#[derive(Drop)]
+#[derive(Clone, Copy)]
 pub struct RegisterMap<'a> {
     pub bytes: &'a [u8],
     pub count: usize,

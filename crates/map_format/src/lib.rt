@@ -1,4 +1,6 @@
 // The register map: bytes that a caller lends. Nothing of them is copied.
+#![tactic(auto)]
+
 ghost use Rattle.std.specs.Prelude.{◌≡◌};
 ghost use Rattle.base_bits.specs.Bytes.{byte_at};
 ghost use Rattle.map_format.specs.Format.{count_of, flags_of, head_of, head_size_in, version_of};
@@ -41,7 +43,7 @@ pub const LEAST_SIZE: usize = HEAD_SIZE + ENTRY_SIZE * LEAST_COUNT;
 pub const MOST_SIZE: usize = FLAGGED_HEAD_SIZE + ENTRY_SIZE * MOST_COUNT;
 
 // What the map says of the register at one address.
-#[derive(Drop)]
+#[derive(Clone, Copy)]
 pub struct Entry {
     pub kind: u8,
     pub mask: u8,

@@ -17,7 +17,7 @@ use map_test::{form_good, product_good};
 const LISTED_SIZE: usize = 2 + ENTRY_SIZE;
 
 // What a call of mending answers: the number, and how many bytes it listed.
-#[derive(Drop)]
+#[derive(Clone, Copy)]
 pub struct Mended {
     pub number: u8,
     pub length: usize,

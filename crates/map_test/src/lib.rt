@@ -1,4 +1,6 @@
 // The map test: whether a register map may be used. Its number is 0, 2 or 3, the lowest that applies; for an older part then 12.
+#![tactic(auto)]
+
 ghost use Rattle.std.specs.Prelude.{◌≡◌, [], ◌<◌, ◌≤◌, ◌-◌, length};
 ghost use Rattle.base_bits.specs.Tests.{every};
 ghost use Rattle.base_chip.specs.declared.Chip.TheVariants.{Newer, Older};

@@ -19,14 +19,14 @@ use read_refusals::{open_refusal, read_refusal};
 use read_run::run_samples;
 
 // What opening answers: the number, and the opened session.
-#[derive(Drop)]
+#[derive(Clone, Copy)]
 pub struct Opened {
     pub number: u8,
     pub session: Session,
 }
 
 // What reading answers: the number, the next session, and how many records there are.
-#[derive(Drop)]
+#[derive(Clone, Copy)]
 pub struct Answer {
     pub number: u8,
     pub session: Session,

@@ -23,7 +23,7 @@ use read_refusals::read_refusal;
 use read_run::run_samples;
 
 // What the call answers: the number, the next session, how many records there are, none or one, and how many samples were read.
-#[derive(Drop)]
+#[derive(Clone, Copy)]
 pub struct NextRecord {
     pub number: u8,
     pub session: Session,
@@ -71,7 +71,7 @@ fn samples_refusal(
 }
 
 // How many samples there are up to and with the first that gives a record, or all of them; and how many records they give.
-#[derive(Drop)]
+#[derive(Clone, Copy)]
 struct First {
     at: usize,
     count: usize,

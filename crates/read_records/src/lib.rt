@@ -110,7 +110,7 @@ pub fn put_abort(records: &mut [u8], at: usize, address: u16, bits: u8, in_data:
 }
 
 // Where an event leads: the place after its record, and whether the session is armed.
-#[derive(Drop)]
+#[derive(Clone, Copy)]
 pub struct EventOutcome {
     pub at: usize,
     pub armed: bool,

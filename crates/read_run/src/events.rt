@@ -14,7 +14,7 @@ use reg_write::moves_at_rise;
 
 // What stays the same for a whole pass: the chip, and whether it is a newer one; whether the end of a frame moves bytes; whether records
 // are put.
-#[derive(Drop)]
+#[derive(Clone, Copy)]
 pub(crate) struct Pass {
     pub(crate) chip: Chip,
     pub(crate) newer: bool,

@@ -18,7 +18,7 @@ use bus_session::{Session, may_stall};
 use read_records::EventOutcome;
 
 // Where a pass ended: the session, and how many bytes the records have.
-#[derive(Drop)]
+#[derive(Clone, Copy)]
 pub struct RunEnd {
     pub session: Session,
     pub size: usize,

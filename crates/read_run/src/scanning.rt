@@ -15,7 +15,7 @@ use bus_settings::next_address;
 use bus_trace::{Progress, last_of, level_of, next_stop};
 
 // A port whose phase is told by `last`, how many bits come before the last of a piece; `line` is the line that its bits come from.
-#[derive(Drop)]
+#[derive(Clone, Copy)]
 pub(crate) struct ScanPort {
     pub(crate) port: Port,
     pub(crate) last: u8,

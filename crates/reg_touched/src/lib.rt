@@ -1,4 +1,6 @@
 // The touched registers: a bit a register in lent 64-bit words, address a at bit a mod 64 of word a div 64.
+#![tactic(auto)]
+
 ghost use Rattle.std.specs.Prelude.{◌≡◌, ◌+◌, ◌*◌, ◌<◌, ◌≤◌, length, drop};
 ghost use Rattle.reg_touched.specs.Touched.{touched_bits, touched_words, cleared_words, trues, first_true, next_true};
 ghost use Rattle.reg_touched.specs.Calls.{most_words, words_number, marking, mark_of, touched_count, touched_count_of, searching, search_of};
@@ -12,14 +14,14 @@ const WORD: usize = 64;
 const MOST_WORDS: usize = 128;
 
 // What the count answers: the number, and how many registers were touched.
-#[derive(Drop)]
+#[derive(Clone, Copy)]
 pub struct Counted {
     pub number: u8,
     pub count: usize,
 }
 
 // What the search answers: the number, and the address found, or that past the last bit.
-#[derive(Drop)]
+#[derive(Clone, Copy)]
 pub struct Found {
     pub number: u8,
     pub address: usize,

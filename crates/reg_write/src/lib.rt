@@ -28,7 +28,7 @@ const EFFECT_TRANSFER: u8 = 4;
 const EFFECT_RESET: u8 = 5;
 
 // What a write does to the registers.
-#[derive(Drop)]
+#[derive(Clone, Copy)]
 pub enum Effect {
     Nothing,
     // The active byte at an address becomes this one, or the buffer byte if the register is buffered; these bits of it differ from the
@@ -50,7 +50,7 @@ pub enum Effect {
 }
 
 // What the write of one register answers: the byte to record, the number of the effect, and the bits of the byte that moved.
-#[derive(Drop)]
+#[derive(Clone, Copy)]
 pub struct Written {
     pub byte: u8,
     pub effect: u8,
@@ -65,7 +65,7 @@ pub fn touches(effect: u8) -> bool
 }
 
 // The bytes of one register in both stages.
-#[derive(Drop)]
+#[derive(Clone, Copy)]
 pub struct Stages {
     pub active: u8,
     pub buffer: u8,

@@ -15,7 +15,7 @@ use registers::registers_good;
 use send_setup::DATA_AT;
 
 // What the call answers: the number, and how many bytes it put.
-#[derive(Drop)]
+#[derive(Clone, Copy)]
 pub struct Made {
     pub number: u8,
     pub length: usize,

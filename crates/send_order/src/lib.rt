@@ -18,7 +18,7 @@ pub const ORDER_ASCENDING: u8 = 1;
 pub const ORDER_SINGLE_INSTRUCTION: u8 = 2;
 
 // An order as it is given, with its data lent beside it: a direction, a settings number, a start address and a count.
-#[derive(Drop)]
+#[derive(Clone, Copy)]
 pub struct Order {
     pub direction: u64,
     pub settings: u64,

@@ -17,14 +17,14 @@ pub use samples::put_samples;
 use send_order::{ORDER_ASCENDING, ORDER_LSB_FIRST, ORDER_SINGLE_INSTRUCTION, Order, number_of};
 
 // What a call of the sender answers: the number, and how many samples it put.
-#[derive(Drop)]
+#[derive(Clone, Copy)]
 pub struct Sent {
     pub number: u8,
     pub count: usize,
 }
 
 // How the run of an order goes: its direction, and its settings by name.
-#[derive(Drop)]
+#[derive(Clone, Copy)]
 struct RunSettings {
     read: bool,
     lsb_first: bool,

@@ -58,7 +58,7 @@ fn good_from(list: &[u8], from: usize, most: u8) -> bool
 }
 
 // What a look over the list finds: 14, or the number of the first bad order, or 0; and then how many samples all orders take.
-#[derive(Drop)]
+#[derive(Clone, Copy)]
 struct Looked {
     number: u8,
     total: usize,

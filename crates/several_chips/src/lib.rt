@@ -12,7 +12,7 @@ pub const RECORD: usize = 8;
 
 // A chip of the list. C declares the same struct, so that it holds numbers alone, any of which may be handed in.
 #[repr(C)]
-#[derive(Drop)]
+#[derive(Clone, Copy)]
 pub struct Member {
     // The bytes of its session.
     pub session: [u8; SIZE],
@@ -26,7 +26,7 @@ pub struct Member {
 }
 
 // Whose turn it is: a chip at a sample, with so many bytes of records put before it.
-#[derive(Drop)]
+#[derive(Clone, Copy)]
 pub struct Turn {
     pub sample: usize,
     pub chip: usize,
@@ -34,7 +34,7 @@ pub struct Turn {
 }
 
 // What a turn leads to: the chip after it, and the next turn.
-#[derive(Drop)]
+#[derive(Clone, Copy)]
 pub struct Stepped {
     pub member: Member,
     pub turn: Turn,

@@ -84,7 +84,7 @@ fn next_turn(turn: Turn, chips: usize, at: usize) -> Turn
 }
 
 // Where a sample leads a chip: the chip after it, and the place after its record.
-#[derive(Drop)]
+#[derive(Clone, Copy)]
 struct Moved {
     member: Member,
     at: usize,

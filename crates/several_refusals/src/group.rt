@@ -5,7 +5,7 @@ ghost use Rattle.several_refusals.specs.Group.{absent, no_group, with_member};
 use bus_session_bytes::SIZE;
 use several_chips::Member;
 
-#[derive(Drop)]
+#[derive(Clone, Copy)]
 pub struct Group {
     // How many chips there are; 9 stands for more than eight.
     pub count: usize,

@@ -7,7 +7,7 @@ ghost use Rattle.several_refusals.specs.Ranges.{no_range, range_of};
 use crate::group::Group;
 
 // Where a range starts, and how long it is.
-#[derive(Drop)]
+#[derive(Clone, Copy)]
 struct Range {
     start: usize,
     size: usize,

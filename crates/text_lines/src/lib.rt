@@ -1,4 +1,6 @@
 // The line of text that the bench program prints for a record.
+#![tactic(auto)]
+
 ghost use Rattle.std.specs.Prelude.{◌≡◌, ◌/◌, ◌%◌, ◌<◌, ◌≤◌, length};
 ghost use Rattle.base_sizes.specs.Sizes.{record_size};
 ghost use Rattle.text_lines.specs.Text.{digit_of};

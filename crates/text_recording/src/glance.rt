@@ -7,7 +7,7 @@ use bus_session::{CSB, SCLK};
 
 // What has been seen of a recording: its last sample; whether the select has fallen; and whether a clock edge has come with the
 // select low, after which nothing more is looked for.
-#[derive(Drop)]
+#[derive(Clone, Copy)]
 pub struct Seen {
     pub last: u8,
     pub fell: bool,

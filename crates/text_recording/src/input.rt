@@ -14,7 +14,7 @@ const MOST_LENGTH: usize = MOST_SIZE - LENGTH_SIZE;
 pub const MAP_SPACE: usize = MOST_SIZE + 1;
 
 // What came of filling a buffer: so many bytes, fewer than were asked for where the file has ended; or the file failed.
-#[derive(Drop)]
+#[derive(Clone, Copy)]
 pub enum Filled {
     Bytes(usize),
     Failed,

@@ -38,14 +38,14 @@ const RECORD_SPACE: usize = 9562;
 const MOST_WORDS: usize = 128;
 
 // What a recording is of: a newer chip, or an older part, whose highest address its map tells.
-#[derive(Drop)]
+#[derive(Clone, Copy)]
 pub enum Family {
     Newer,
     Older(Part),
 }
 
 // How a reading ends. A file that failed has left its reason in the system's errno.
-#[derive(Drop)]
+#[derive(Clone, Copy)]
 pub enum End {
     Done,
     Refused(u8),
@@ -56,7 +56,7 @@ pub enum End {
 
 // What came of a recording: how it ended; how many records were written; how many samples were read, which on number 5 is the
 // number of the first bad one, counted from 0; and whether the select fell and a clock edge came with the select low.
-#[derive(Drop)]
+#[derive(Clone, Copy)]
 pub struct Reading {
     pub end: End,
     pub records: u64,

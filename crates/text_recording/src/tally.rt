@@ -8,7 +8,7 @@ use base_sizes::RECORD;
 use read_records::count_slow;
 
 // How many records, samples, and writes that ask for slow there were; and what has been seen of the samples.
-#[derive(Drop)]
+#[derive(Clone, Copy)]
 pub struct Tally {
     pub records: u64,
     pub samples: u64,

@@ -1,0 +1,50 @@
+-- `form_good` meets its contract: its tests are those of the form, in their order. Two bytes bound a word, so that no sum wraps.
+use mathlib.Core.Bool.{true}
+use Prim.Native.Nat.{◌<◌, ◌^◌}
+use native.Mathlib.Omega.{arith}
+use borrow.Author.Tests.{lt-leb, le-leb}
+use lib.ListN.{length}
+use Rattle.base_bits.proofs.Cases.{joined_every}
+use Rattle.map_format.specs.Format.{head_size}
+use Rattle.map_format.proofs.Laws.{count_fits, head_bounds}
+use Rattle.map_test.specs.MapTest.{form_tests}
+use Rattle.map_test.proofs.form_good.Goals as goal
+use Rattle.map_test.proofs.form_good.Goals.{After-count-n}
+
+small : (c : After-count-n) → c.count.result < 2 ^ 16
+small c =
+    let k = c.before.before in
+    rw c.count.ensures (count_fits k.before.args.map.now (λ i. (k.shared-slice-known.given i).fits))
+
+pub returns-then-map-lt-HEAD_SIZE : goal.returns-then-map-lt-HEAD_SIZE
+returns-then-map-lt-HEAD_SIZE c =
+    let m = c.args.map.now in
+    let short = lt-leb head_size (length m) c.if-map-lt-HEAD_SIZE.true in
+    rw short (rw short at (joined_every true (form_tests m)))
+
+pub overflow_mul-size : goal.overflow_mul-size
+overflow_mul-size c = omega (arith, small c)
+
+pub overflow_add-size : goal.overflow_add-size
+overflow_add-size c = omega (arith, small c, c.head.ensures, head_bounds c.args.map.now)
+
+pub overflow_cast-length : goal.overflow_cast-length
+overflow_cast-length c = omega (arith, c.type_inv.map 0)
+
+pub overflow_mul-length : goal.overflow_mul-length
+overflow_mul-length c = omega (arith, c.type_inv.map 0)
+
+pub overflow_cast-length-2 : goal.overflow_cast-length-2
+overflow_cast-length-2 c = omega (arith, c.type_inv.map 1)
+
+pub overflow_add-length : goal.overflow_add-length
+overflow_add-length c = let byte = c.type_inv.map in omega (arith, byte 0, byte 1)
+
+pub overflow_add-result : goal.overflow_add-result
+overflow_add-result c = let byte = c.type_inv.map in omega (arith, byte 0, byte 1)
+
+pub returns : goal.returns
+returns c =
+    let m = c.args.map.now in
+    let long = le-leb head_size (length m) (omega arith) in
+    rw (c.count-n.ensures, c.head.ensures, c.flags.ensures, long) (rw long at (joined_every true (form_tests m)))

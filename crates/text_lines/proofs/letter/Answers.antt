@@ -1,0 +1,12 @@
+-- `letter` meets its contract: a test of the kind for each letter.
+use borrow.Author.Tests.{eq-eqb, ne_eqb}
+use Rattle.text_lines.proofs.letter.Goals as goal
+
+pub returns-then-kind-eq1 : goal.returns-then-kind-eq1
+returns-then-kind-eq1 c = rw (eq-eqb _ _ c.if-kind-eq1.true)
+
+pub returns-then-kind-eq2 : goal.returns-then-kind-eq2
+returns-then-kind-eq2 c = rw (ne_eqb _ _ c.if-kind-eq1.false, eq-eqb _ _ c.if-kind-eq2.true)
+
+pub returns : goal.returns
+returns c = rw (ne_eqb _ _ c.if-kind-eq1.false, ne_eqb _ _ c.if-kind-eq2.false)
