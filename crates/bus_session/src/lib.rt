@@ -1,5 +1,6 @@
 // The session of the serial control interface. Its port is what the samples alone decide: what one sample makes of it, and what the
 // sample completes; no map and no registers come in. Whether it is armed goes by what was completed, and by the map.
+#![tactic(auto)]
 
 mod events;
 mod state;

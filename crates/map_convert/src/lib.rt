@@ -1,4 +1,6 @@
 // The converter: a map made one of the other version, or the number that refuses it.
+#![tactic(auto)]
+
 ghost use Rattle.std.specs.Prelude.{◌≡◌, ◌+◌, ◌≤◌, length, drop};
 ghost use Rattle.base_bits.specs.Buffer.{Put};
 ghost use Rattle.map_format.specs.Format.{most_count};

@@ -1,4 +1,6 @@
 // Mending a map: an entry that breaks a rule is corrected in the map's own bytes, and listed as it was.
+#![tactic(auto)]
+
 ghost use Rattle.std.specs.Prelude.{◌≡◌, ◌+◌, ◌<◌, ◌≤◌, length};
 ghost use Rattle.std.proofs.lemmas.List.Edits.{sets};
 ghost use Rattle.base_bits.specs.Buffer.{Put};

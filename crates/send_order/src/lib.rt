@@ -1,4 +1,6 @@
 // An order to the sender: whether it is refused, and with which number.
+#![tactic(auto)]
+
 ghost use Rattle.std.specs.Prelude.{◌≡◌, true, cond, ◌&&◌, List, [], ℕ, ◌+◌, ◌*◌, ◌<◌, ◌≤◌, leb, length};
 ghost use Rattle.base_bits.specs.Tests.{every};
 ghost use Rattle.base_chip.specs.Chip.{top_good};

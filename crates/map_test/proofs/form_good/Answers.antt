@@ -9,12 +9,6 @@ use Rattle.map_format.specs.Format.{head_size}
 use Rattle.map_format.proofs.Laws.{count_fits, head_bounds}
 use Rattle.map_test.specs.MapTest.{form_tests}
 use Rattle.map_test.proofs.form_good.Goals as goal
-use Rattle.map_test.proofs.form_good.Goals.{After-count-n}
-
-small : (c : After-count-n) → c.count.result < 2 ^ 16
-small c =
-    let k = c.before.before in
-    rw c.count.ensures (count_fits k.before.args.map.now (λ i. (k.shared-slice-known.given i).fits))
 
 pub returns-then-map-lt-HEAD_SIZE : goal.returns-then-map-lt-HEAD_SIZE
 returns-then-map-lt-HEAD_SIZE c =
@@ -23,10 +17,16 @@ returns-then-map-lt-HEAD_SIZE c =
     rw short (rw short at (joined_every true (form_tests m)))
 
 pub overflow_mul-size : goal.overflow_mul-size
-overflow_mul-size c = omega (arith, small c)
+overflow_mul-size c =
+    let small : c.count-n.result < 2 ^ 16 =
+    rw c.count-n.ensures (count_fits c.args.map.now (λ i. (c.type_inv.map i).fits)) in
+    omega (arith, small)
 
 pub overflow_add-size : goal.overflow_add-size
-overflow_add-size c = omega (arith, small c, c.head.ensures, head_bounds c.args.map.now)
+overflow_add-size c =
+    let small : c.count-n.result < 2 ^ 16 =
+    rw c.count-n.ensures (count_fits c.args.map.now (λ i. (c.type_inv.map i).fits)) in
+    omega (arith, small, c.head.ensures, head_bounds c.args.map.now)
 
 pub overflow_cast-length : goal.overflow_cast-length
 overflow_cast-length c = omega (arith, c.type_inv.map 0)

@@ -6,21 +6,26 @@ use Rattle.base_bits.proofs.Cases.{yes, no}
 use Rattle.map_test.specs.MapTest.{form_tests, map_number}
 use Rattle.map_test.proofs.Laws.{formed}
 use Rattle.map_test.proofs.map_number.Goals as goal
-use Rattle.map_test.proofs.map_number.Goals.{Then-form_good}
-
-form : (c : Then-form_good) → every (form_tests c.before.before.before.args.map.now) ≡ true
-form c = sym c.before.form_good.ensures ∙ c.if1.true
 
 pub rules_good-requires : goal.rules_good-requires
-rules_good-requires c = formed _ (form c)
+rules_good-requires c =
+    let form : every (form_tests c.args.map.now) ≡ true =
+    sym c.form_good.ensures ∙ c.if-form_good.true in
+    formed _ form
 
 pub returns-then-rules_good : goal.returns-then-rules_good
 unfolding map_number
-returns-then-rules_good c = yes _ (form c) (yes _ (sym c.rules_good.ensures ∙ c.if-rules_good.true) refl)
+returns-then-rules_good c =
+    let form : every (form_tests c.args.map.now) ≡ true =
+    sym c.form_good.ensures ∙ c.if-form_good.true in
+    yes _ form (yes _ (sym c.rules_good.ensures ∙ c.if-rules_good.true) refl)
 
 pub returns-then-form_good : goal.returns-then-form_good
 unfolding map_number
-returns-then-form_good c = yes _ (form c) (no _ (sym c.rules_good.ensures ∙ c.if-rules_good.false) refl)
+returns-then-form_good c =
+    let form : every (form_tests c.args.map.now) ≡ true =
+    sym c.form_good.ensures ∙ c.if-form_good.true in
+    yes _ form (no _ (sym c.rules_good.ensures ∙ c.if-rules_good.false) refl)
 
 pub returns : goal.returns
 unfolding map_number

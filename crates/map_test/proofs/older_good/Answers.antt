@@ -15,9 +15,9 @@ entries_good-requires-in-Ad9508 c = (c.requires, omega arith)
 pub returns-in-Ad9557 : goal.returns-in-Ad9557
 returns-in-Ad9557 c =
     let m = c.args.map.now in
-    c.entries_good.ensures ∙ ap (λ (p : Part). entries_good (older_kinds p) m 0 (count_of m)) (sym c.enum_told-1.given.1)
+    c.entries_good.ensures ∙ ap (λ (p : Part). entries_good (older_kinds p) m 0 (count_of m)) (sym c.in-Ad9557.is)
 
 pub returns-in-Ad9508 : goal.returns-in-Ad9508
 returns-in-Ad9508 c =
     let m = c.args.map.now in
-    c.entries_good-in-Ad9508.ensures ∙ ap (λ (p : Part). entries_good (older_kinds p) m 0 (count_of m)) (sym c.enum_told-in-Ad9508-1.given.1)
+    c.entries_good-in-Ad9508.ensures ∙ ap (λ (p : Part). entries_good (older_kinds p) m 0 (count_of m)) (sym c.in-Ad9508.is)

@@ -14,7 +14,7 @@ pub returns-in-Newer : goal.returns-in-Newer
 returns-in-Newer c =
     let m = c.args.map.now in
     (λ i. c.entries_good.ensures i && c.further_good.ensures i)
-    ∙ ap (λ (k : Chip). rules_good k m) (sym c.enum_told-1.given.1)
+    ∙ ap (λ (k : Chip). rules_good k m) (sym c.in-Newer.is)
 
 pub returns-in-Older : goal.returns-in-Older
 unfolding every
@@ -22,4 +22,4 @@ returns-in-Older c =
     let m = c.args.map.now in
     c.older_good.ensures
     ∙ sym (and-true _)
-    ∙ ap (λ (k : Chip). rules_good k m) (sym c.chip-1.given.1)
+    ∙ ap (λ (k : Chip). rules_good k m) (sym c.in-Older.is)

@@ -8,7 +8,7 @@ pub returns-in-Newer : goal.returns-in-Newer
 returns-in-Newer c =
     c.after_newer.ensures
     ∙ ap (λ (k : Chip). settings_after k c.args.self c.args.address c.args.v)
-    (sym c.enum_told-1.given.1)
+    (sym c.in-Newer.is)
 
 pub returns-in-Older : goal.returns-in-Older
 returns-in-Older c =
@@ -16,4 +16,4 @@ returns-in-Older c =
     ∙ ap
     (λ (k : Chip). settings_after k c.args.self c.args.address
     c.args.v)
-    (sym c.chip-1.given.1)
+    (sym c.in-Older.is)

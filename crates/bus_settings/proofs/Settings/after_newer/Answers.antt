@@ -2,7 +2,7 @@
 use Prim.Native.Nat.{ℕ}
 use mathlib.Core.Bool.{Bool, cond}
 use mathlib.Core.Path.{◌≡◌, refl, sym, ◌∙◌}
-use borrow.Author.Tests.{eq-eqb, ne_eqb, not-true, not-false}
+use borrow.Author.Tests.{eq-eqb, ne_eqb}
 use Rattle.base_bits.specs.Bits.{bit_at}
 use Rattle.base_bits.proofs.Cases.{yes, no}
 use Rattle.bus_settings.specs.declared.Settings.{Settings}
@@ -27,13 +27,13 @@ pub returns-then-not-is_mirror : goal.returns-then-not-is_mirror
 unfolding newer_after
 returns-then-not-is_mirror c =
     yes _ (eq-eqb _ _ c.if-address-eq-CONFIGURATION_A.true)
-    (no _ (sym c.is_mirror.ensures ∙ not-true _ c.if-not-is_mirror.true) refl)
+    (no _ (sym c.is_mirror.ensures ∙ c.if-not-is_mirror.true) refl)
 
 pub returns-then-asks_reset : goal.returns-then-asks_reset
 unfolding newer_after
 returns-then-asks_reset c =
     yes _ (eq-eqb _ _ c.if-address-eq-CONFIGURATION_A.true)
-    (yes _ (sym c.is_mirror.ensures ∙ not-false _ c.if-not-is_mirror.false)
+    (yes _ (sym c.is_mirror.ensures ∙ c.if-not-is_mirror.false)
     (configured_by_lem c.args.self _ c.bit_at.ensures c.bit_at-then-address-eq-CONFIGURATION_A.ensures
     c.bit_at-then-address-eq-CONFIGURATION_A-2.ensures (sym c.if-asks_reset.true ∙ c.asks_reset.ensures)))
 
@@ -41,7 +41,7 @@ pub returns-else-asks_reset : goal.returns-else-asks_reset
 unfolding newer_after
 returns-else-asks_reset c =
     yes _ (eq-eqb _ _ c.if-address-eq-CONFIGURATION_A.true)
-    (yes _ (sym c.is_mirror.ensures ∙ not-false _ c.if-not-is_mirror.false)
+    (yes _ (sym c.is_mirror.ensures ∙ c.if-not-is_mirror.false)
     (configured_by_lem c.args.self _ c.bit_at.ensures c.bit_at-then-address-eq-CONFIGURATION_A.ensures
     c.bit_at-then-address-eq-CONFIGURATION_A-2.ensures (sym c.if-asks_reset.false ∙ c.asks_reset.ensures)))
 

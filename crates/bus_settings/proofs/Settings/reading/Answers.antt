@@ -8,10 +8,10 @@ pub returns-in-Newer : goal.returns-in-Newer
 returns-in-Newer c =
     c.reading_newer.ensures
     ∙ ap (λ (k : Chip). control_reading k c.args.self c.args.address)
-    (sym c.enum_told-1.given.1)
+    (sym c.in-Newer.is)
 
 pub returns-in-Older : goal.returns-in-Older
 returns-in-Older c =
     c.reading_older.ensures
     ∙ ap (λ (k : Chip). control_reading k c.args.self c.args.address)
-    (sym c.enum_told-in-Older-1.given.1)
+    (sym c.in-Older.is)

@@ -7,9 +7,9 @@ use Rattle.bus_settings.proofs.control.transfers_at.Goals as goal
 pub returns-in-Newer : goal.returns-in-Newer
 returns-in-Newer c =
     rw c.bit_at.ensures
-    (ap (λ (k : Chip). transfers_at k c.args.address c.args.v) (sym c.enum_told-1.given.1))
+    (ap (λ (k : Chip). transfers_at k c.args.address c.args.v) (sym c.in-Newer.is))
 
 pub returns-in-Older : goal.returns-in-Older
 returns-in-Older c =
     rw c.bit_at-in-Older.ensures
-    (ap (λ (k : Chip). transfers_at k c.args.address c.args.v) (sym c.enum_told-in-Older-1.given.1))
+    (ap (λ (k : Chip). transfers_at k c.args.address c.args.v) (sym c.in-Older.is))

@@ -1,0 +1,10 @@
+use Prim.Native.Nat.{◌-◌, ◌≤◌}
+use lib.ListN.{length, drop}
+use Rattle.base_bits.proofs.Putting.{Putting}
+use Rattle.map_convert.proofs.put_rest.Given as goal
+
+abbrev pub invariant-loop-i : goal.invariant-loop-i
+invariant-loop-i l = (l.i ≤ length l.map) × Putting l.initial.out l.at (drop l.from l.map) (drop l.i l.map) l.n l.out
+
+abbrev pub decreases-loop-i : goal.decreases-loop-i
+decreases-loop-i l = length l.map - l.i

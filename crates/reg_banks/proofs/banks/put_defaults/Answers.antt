@@ -1,0 +1,24 @@
+-- `put_defaults` meets its contract: the loop stores each default, and the rest is the defaults from there on.
+use Prim.Native.Nat.{◌-◌}
+use mathlib.Core.Path.{ap, ◌∙◌}
+use Rattle.reg_banks.specs.Banks.{defaults_from}
+use Rattle.reg_banks.proofs.Filling.{filling_begun, stored, ended}
+use Rattle.reg_banks.proofs.Laws.{defaults_rule}
+use Rattle.reg_banks.proofs.banks.put_defaults.Goals as goal
+
+pub loop-i-init : goal.loop-i-init
+loop-i-init c = filling_begun _ _
+
+pub loop-i-preserved : goal.loop-i-preserved
+loop-i-preserved c =
+    let inv = c.loop-i.invariant in
+    stored (defaults_rule _) inv _ c.loop-i-test.true
+    (rw (c.entry_at.ensures, inv.same, c.requires))
+
+pub shape_of-bank : goal.shape_of-bank
+shape_of-bank c = c.loop-i.invariant.same
+
+pub returns : goal.returns
+returns c =
+    ended (defaults_rule _) c.loop-i.invariant c.loop-i-test.false
+    ∙ ap (defaults_from c.args.map.now 0) c.requires
