@@ -1,4 +1,6 @@
 // The session as bytes: it crosses so to a host, which knows none of our structs. The layout is in specs/Layout.antt.
+#![tactic(auto)]
+
 ghost use Rattle.std.specs.Prelude.{◌≡◌, length};
 ghost use Rattle.bus_session_bytes.specs.Layout.{session_size, phase_byte, phase_of_byte, word_of_bytes, session_bytes, are_session, session_of};
 

@@ -1,4 +1,6 @@
 // Which sessions a call takes, and which one opening hands back.
+#![tactic(auto)]
+
 ghost use Rattle.std.specs.Prelude.{◌≡◌, ◌^◌, ltb};
 ghost use Rattle.bus_session.specs.State.{is_rest, length_good, may_arm, sound_port, sound_session};
 ghost use Rattle.bus_soundness.specs.Opened.{opened_session};

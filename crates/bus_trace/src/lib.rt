@@ -1,4 +1,6 @@
 // The samples of a trace, from event to event.
+#![tactic(auto)]
+
 ghost use Rattle.std.specs.Prelude.{◌≡◌, true, ◌<◌, length};
 ghost use Rattle.bus_session.specs.State.{sound_port};
 ghost use Rattle.bus_trace.specs.Path.{NextAfter, happens};

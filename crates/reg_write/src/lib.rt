@@ -1,4 +1,6 @@
 // The write of one register: its effect is decided first, then applied to the two banks and answered.
+#![tactic(auto)]
+
 ghost use Rattle.std.specs.Prelude.{◌≡◌, cond, ◌<◌, length};
 ghost use Rattle.reg_banks.specs.Banks.{banks, Mapped};
 ghost use Rattle.reg_write.specs.Write.{stages_at, effect_at, with_byte, applied, ByteBelow, touches_on, written, control_written, written_by, Wrote};

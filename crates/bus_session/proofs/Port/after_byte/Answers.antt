@@ -40,4 +40,4 @@ returns c =
     let a = c.args in
     no _ c.if-counting.false (no _ c.if-runs_out.false c.in_data.ensures)
     ∙ after_by_lem a.chip a.self a.settings c.counting-counting.ensures
-    c.runs_out.ensures c.Next-address.ensures c.left_after.ensures
+    c.runs_out.ensures c.next_address-next.ensures c.left_after.ensures

@@ -14,7 +14,7 @@ returns-then-lsb_first c =
     (yes 0 c.if-lsb_first.true refl)
     ∙ ap
     (λ (k : Chip). runs_out k c.args.left c.args.address
-    c.args.lsb-first)
+    c.args.lsb_first)
     (sym c.in-Older.is)
 
 pub returns-else-lsb_first : goal.returns-else-lsb_first
@@ -22,5 +22,5 @@ returns-else-lsb_first c =
     ap (λ (k : ℕ). eqb c.args.left 1 || eqb c.args.address k) (no _ c.if-lsb_first.false refl)
     ∙ ap
     (λ (k : Chip). runs_out k c.args.left c.args.address
-    c.args.lsb-first)
+    c.args.lsb_first)
     (sym c.in-Older.is)

@@ -15,9 +15,6 @@ loop-i-preserved c =
     stored (defaults_rule _) inv _ c.loop-i-test.true
     (rw (c.entry_at.ensures, inv.same, c.requires))
 
-pub shape_of-bank : goal.shape_of-bank
-shape_of-bank c = c.loop-i.invariant.same
-
 pub returns : goal.returns
 returns c =
     ended (defaults_rule _) c.loop-i.invariant c.loop-i-test.false

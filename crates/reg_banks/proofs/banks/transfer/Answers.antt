@@ -10,22 +10,20 @@ use Rattle.reg_banks.specs.Banks.{banks, transferred}
 use Rattle.reg_banks.proofs.Filling.{filling_begun, stored, kept, ended}
 use Rattle.reg_banks.proofs.Laws.{transfer_rule}
 use Rattle.reg_banks.proofs.banks.transfer.Goals as goal
+use Rattle.reg_banks.proofs.banks.transfer.Goals.{then-entry_at-eq-BUFFERED, else-entry_at-eq-BUFFERED}
 
 pub loop-i-init : goal.loop-i-init
 loop-i-init c = filling_begun _ _
 
 pub loop-i-preserved : goal.loop-i-preserved
 loop-i-preserved c =
-    let kind_is : let at = c in (register_at at.before.before.before.before.args.map.now at.loop.i).kind ≡ c.entry_at.result.kind =
+    let e : (register_at c.args.map.now c.loop-i.i).kind ≡ c.entry_at.result.kind =
     rw (c.entry_at.ensures, c.loop-i.invariant.same, c.requires.active_size) in
     let inv = c.loop-i.invariant in
-    let e = kind_is in
-    ⊎_elim (λ w. rw w.2 (stored (transfer_rule _ _) inv _ c.loop-i-test.true (yes _ (eq-eqb _ _ (e ∙ w.0.taken)) refl)))
-    (λ w. rw w.1 (kept (transfer_rule _ _) inv c.loop-i-test.true (no _ (ne_eqb _ _ (λ q. w.0.left (sym e ∙ q))) refl)))
-    c.if-entry_at-eq-BUFFERED.branch
-
-pub shape_of-active : goal.shape_of-active
-shape_of-active c = c.loop-i.invariant.same
+    elim c.if-entry_at-eq-BUFFERED.branch [
+      | then-entry_at-eq-BUFFERED w ↦ rw w.active-is (stored (transfer_rule _ _) inv _ c.loop-i-test.true (yes _ (eq-eqb _ _ (e ∙ w.if-entry_at-eq-BUFFERED.true)) refl))
+      | else-entry_at-eq-BUFFERED w ↦ rw w.active-is (kept (transfer_rule _ _) inv c.loop-i-test.true (no _ (ne_eqb _ _ (λ q. w.if-entry_at-eq-BUFFERED.false (sym e ∙ q))) refl))
+    ]
 
 pub returns : goal.returns
 unfolding transferred

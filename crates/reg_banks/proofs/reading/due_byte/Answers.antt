@@ -53,7 +53,7 @@ returns-then-kind-settings c =
     let kind_is : let a = c.args in (register_at a.map.now a.address).kind ≡ c.entry_at-kind.result.kind =
     rw (c.entry_at-kind.ensures, c.requires.active_size) in
     waits _ _ _ _ _ _ kind_is c.if-kind-eq-BLANK.false c.if-kind-eq-CONTROL.false
-    (rw c.reads_buffer.ensures c c.if-kind-settings.true)
+    (rw c.reads_buffer.ensures at c.if-kind-settings.true)
 
 pub bounds-active-at : goal.bounds-active-at
 bounds-active-at c =
@@ -66,4 +66,4 @@ returns c =
     let kind_is : let a = c.args in (register_at a.map.now a.address).kind ≡ c.entry_at-kind.result.kind =
     rw (c.entry_at-kind.ensures, c.requires.active_size) in
     in_force_lem _ _ _ _ _ _ kind_is c.if-kind-eq-BLANK.false c.if-kind-eq-CONTROL.false
-    (rw c.reads_buffer.ensures c c.if-kind-settings.false)
+    (rw c.reads_buffer.ensures at c.if-kind-settings.false)

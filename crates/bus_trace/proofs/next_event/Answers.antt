@@ -1,0 +1,53 @@
+-- `next_event` meets its contract: samples that give no event, and one sample by itself.
+use Prim.Native.Nat.{◌-◌}
+use mathlib.Core.Path.{refl, sym, ◌∙◌}
+use native.Mathlib.Omega.{arith}
+use Rattle.bus_session.proofs.Laws.{fit_sound}
+use Rattle.bus_trace.proofs.Scanning.{scan_begun, quiet_event, scan_quiet, scan_nothing, scan_event, scan_ended}
+use Rattle.bus_trace.proofs.next_event.Goals as goal
+
+pub loop-at-init : goal.loop-at-init
+loop-at-init c = (refl, scan_begun _ c.requires.0 (omega arith))
+
+pub quiet-p-requires : goal.quiet-p-requires
+quiet-p-requires c = (c.loop-at.invariant.1.sound, c.loop-at.invariant.1.within)
+
+pub bounds-samples-at : goal.bounds-samples-at
+bounds-samples-at c = c.if-samples-at.false
+
+pub event-event-requires : goal.event-event-requires
+event-event-requires c = fit_sound _ _ c.quiet-p.ensures.good.sound
+
+pub step-s-requires : goal.step-s-requires
+step-s-requires c = fit_sound _ _ c.quiet-p.ensures.good.sound
+
+pub overflow_add-at : goal.overflow_add-at
+overflow_add-at c = omega (arith, c.well-formed.1.1.0, c.if-samples-at.false)
+
+pub returns-then-happened : goal.returns-then-happened
+returns-then-happened c =
+    scan_event _ (scan_quiet _ c.loop-at.invariant.1
+    c.quiet-p.ensures)
+    _ _ c.if-samples-at.false c.step-s.ensures c.event-event.ensures
+
+pub loop-at-smaller : goal.loop-at-smaller
+loop-at-smaller c =
+    omega (arith, c.quiet-p.ensures.ahead, c.if-samples-at.false)
+
+pub loop-at-preserved : goal.loop-at-preserved
+loop-at-preserved c =
+    let none = sym c.happened.ensures ∙ c.if-happened.false in (
+      quiet_event _ none,
+      scan_nothing _ (scan_quiet _ c.loop-at.invariant.1
+          c.quiet-p.ensures)
+          _ _ c.if-samples-at.false c.step-s.ensures c.event-event.ensures none,
+    )
+
+pub returns-after-loop-at : goal.returns-after-loop-at
+returns-after-loop-at c = scan_ended _ c.loop-at.invariant.1 _ c.loop-at.invariant.0 c.requires.1 c.loop-at-test.false
+
+pub returns-then-samples-at : goal.returns-then-samples-at
+returns-then-samples-at c =
+    scan_ended _ (scan_quiet _ c.loop-at.invariant.1 c.quiet-p.ensures)
+    _ c.loop-at.invariant.0
+    c.requires.1 c.if-samples-at.true

@@ -1,0 +1,11 @@
+-- `lane` meets its contract: a quotient.
+use mathlib.Core.Path.{refl}
+use native.Mathlib.Omega.{arith}
+use lib.Count.{trailing_le}
+use Rattle.bus_trace.proofs.scan.lane.Goals as goal
+
+pub overflow_cast-result : goal.overflow_cast-result
+overflow_cast-result c = omega (arith, trailing_le 64 c.args.rising)
+
+pub returns : goal.returns
+returns c = refl

@@ -1,0 +1,33 @@
+-- `apply` meets its contract: one equation of the definition for each effect.
+use mathlib.Core.Path.{refl, sym, ◌∙◌}
+use Rattle.reg_write.specs.Write.{applied}
+use Rattle.reg_write.proofs.apply.Goals as goal
+
+pub put_byte-requires : goal.put_byte-requires
+put_byte-requires c =
+    let pre = c.requires in
+    (pre.0.buffer_size ∙ sym pre.0.active_size, pre.1 _ _ _ _ c.in-Byte.is)
+
+pub returns-in-Nothing : goal.returns-in-Nothing
+unfolding applied
+returns-in-Nothing c = rw c.in-Nothing.is refl
+
+pub returns-in-Byte : goal.returns-in-Byte
+unfolding applied
+returns-in-Byte c = rw c.in-Byte.is c.put_byte.ensures
+
+pub returns-in-Control : goal.returns-in-Control
+unfolding applied
+returns-in-Control c = rw c.in-Control.is refl
+
+pub returns-in-Transfer : goal.returns-in-Transfer
+unfolding applied
+returns-in-Transfer c = rw c.in-Transfer.is c.transfer.ensures
+
+pub returns-in-Reset : goal.returns-in-Reset
+unfolding applied
+returns-in-Reset c = rw c.in-Reset.is c.reset.ensures
+
+pub returns-in-Ignored : goal.returns-in-Ignored
+unfolding applied
+returns-in-Ignored c = rw c.in-Ignored.is refl
