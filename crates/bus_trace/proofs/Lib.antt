@@ -1,5 +1,5 @@
 pub mod Paths
-pub mod Progress
+pub mod Advance
 pub mod Onward
 mod Lanes
 mod Resting

@@ -18,7 +18,7 @@ use Rattle.bus_trace.specs.declared.scan.Progress.{Progress}
 use Rattle.bus_trace.specs.declared.high.Past.{Past}
 use Rattle.bus_trace.specs.Progress.{last_of}
 use Rattle.bus_trace.specs.Scan.{progress, Onward, ProgressBounds, LowScanAfter, ScanAfter, Rested}
-use Rattle.bus_trace.proofs.Progress.{idle, bit, past_high}
+use Rattle.bus_trace.proofs.Advance.{idle, bit, past_high}
 
 module _ {xs : List ℕ} {line : ℕ} {lsb : Bool} {last : ℕ} where
   pub still_there : {p : Progress} → Onward xs line lsb last p p

@@ -1,4 +1,6 @@
 // What an event does to the banks, and the bytes that it is recorded as.
+#![tactic(auto)]
+
 ghost use Rattle.std.specs.Prelude.{◌≡◌, true, ◌+◌, ◌*◌, ◌<◌, ◌≤◌, length};
 ghost use Rattle.std.proofs.lemmas.List.Edits.{sets};
 ghost use Rattle.base_sizes.specs.Sizes.{record_size};

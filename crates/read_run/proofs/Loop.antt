@@ -23,7 +23,7 @@ use Rattle.bus_trace.specs.declared.scan.Progress.{Progress}
 use Rattle.bus_trace.specs.Path.{Quiet, still, more, NextPath, one}
 use Rattle.bus_trace.specs.Progress.{last_of, source_line}
 use Rattle.bus_trace.specs.Scan.{ScanAfter, ProgressBounds}
-use Rattle.bus_trace.proofs.Progress.{csb_low, csb_high, own, bit_taken_lem, line_lt}
+use Rattle.bus_trace.proofs.Advance.{csb_low, csb_high, own, bit_taken_lem, line_lt}
 use Rattle.bus_trace.proofs.Onward.{start_standing}
 use Rattle.reg_banks.specs.Banks.{banks}
 use Rattle.read_records.specs.declared.EventOutcome.{EventOutcome}

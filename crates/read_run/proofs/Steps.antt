@@ -22,7 +22,7 @@ use Rattle.bus_session.specs.Step.{csb_of, sclk_of, takes_bit, entered, with_ins
 use Rattle.bus_session.specs.Event.{bit_event, end_event, event_of}
 use Rattle.bus_session.proofs.Form.{Form, rests, instructs, has_data, stalls, passes, sound_form}
 use Rattle.bus_trace.specs.Progress.{last_of, source_line}
-use Rattle.bus_trace.proofs.Progress.{on_line}
+use Rattle.bus_trace.proofs.Advance.{on_line}
 use Rattle.read_run.specs.ScanPort.{phase_of_last}
 use Rattle.read_run.specs.Reach.{reaches}
 

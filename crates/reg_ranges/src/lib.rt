@@ -1,4 +1,6 @@
 // Two ranges of one bank memory as the active and the buffer stage of a newer chip: each rule for two banks, done there.
+#![tactic(auto)]
+
 mod banks;
 mod effects;
 mod reading;

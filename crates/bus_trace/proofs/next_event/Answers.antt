@@ -22,7 +22,7 @@ pub step-s-requires : goal.step-s-requires
 step-s-requires c = fit_sound _ _ c.quiet-p.ensures.good.sound
 
 pub overflow_add-at : goal.overflow_add-at
-overflow_add-at c = omega (arith, c.well-formed.1.1.0, c.if-samples-at.false)
+overflow_add-at c = omega (arith, c.well_formed.1.1.0, c.if-samples-at.false)
 
 pub returns-then-happened : goal.returns-then-happened
 returns-then-happened c =

@@ -1,6 +1,6 @@
 -- `high` meets its contract: with CSB high only the level of SCLK changes, to that of the last sample.
 use mathlib.Core.Path.{refl}
-use Rattle.bus_trace.proofs.Progress.{own, past_high}
+use Rattle.bus_trace.proofs.Advance.{own, past_high}
 use Rattle.bus_trace.proofs.Onward.{port_level}
 use Rattle.bus_trace.specs.Scan.{progress}
 use Rattle.bus_trace.proofs.quiet.high.Goals as goal

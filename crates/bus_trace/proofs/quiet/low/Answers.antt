@@ -1,7 +1,7 @@
 -- `low` meets its contract: a scan on the port's line, in its order.
 use mathlib.Core.Path.{refl}
 use Rattle.bus_trace.specs.Scan.{progress}
-use Rattle.bus_trace.proofs.Progress.{own, line_lt}
+use Rattle.bus_trace.proofs.Advance.{own, line_lt}
 use Rattle.bus_trace.proofs.Onward.{start_standing}
 use Rattle.bus_trace.proofs.quiet.low.Goals as goal
 

@@ -23,7 +23,7 @@ pub overflow_add-x : goal.overflow_add-x
 overflow_add-x c =
     let g = c.loop-rising.invariant c.args.from.level c.requires.0 c.requires.1 in
     let f = next_rise (λ k. (c.type_inv.samples k).fits) c.requires.1.room g c.loop-rising-test.true in
-    omega (arith, c.lane.ensures, f.zeros, f.inside, lows_le 8 (word_of c.args.samples.now c.args.from.at 8), c.requires.1.room, c.well-formed)
+    omega (arith, c.lane.ensures, f.zeros, f.inside, lows_le 8 (word_of c.args.samples.now c.args.from.at 8), c.requires.1.room, c.well_formed)
 
 pub bounds-samples-at : goal.bounds-samples-at
 bounds-samples-at c =

@@ -25,7 +25,7 @@ overflow_add-result c =
       rise_inside (λ k. (c.type_inv.samples k).fits) (going_begun c.requires.0)
           c.requires.2 c.bits_at-b.ensures c.if-b-ne0.true _ c.lane.ensures,
       c.requires.2,
-      c.well-formed,
+      c.well_formed,
     )
 
 pub returns-then-b-ne0 : goal.returns-then-b-ne0
@@ -40,7 +40,7 @@ level_at-requires c =
 
 pub overflow_add-result-2 : goal.overflow_add-result-2
 overflow_add-result-2 c =
-    omega (arith, c.lows-stop.ensures, lows_le 8 c.args.word, c.requires.2, c.well-formed)
+    omega (arith, c.lows-stop.ensures, lows_le 8 c.args.word, c.requires.2, c.well_formed)
 
 pub returns : goal.returns
 returns c =
