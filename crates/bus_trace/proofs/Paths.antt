@@ -16,7 +16,7 @@ use Rattle.bus_session.specs.Event.{bit_event, event_of}
 use Rattle.bus_session.proofs.Laws.{entered_settings}
 use Rattle.bus_trace.specs.Path.{Quiet, still, more, happens}
 
-pub paths_joined : {c : Chip} {xs : List ℕ} {s t u : Port} {i j k : ℕ} → Quiet c xs s i t j → Quiet c xs t j u k → Quiet c xs s i u k
+pub paths_joined : {c : Chip} {xs : List ℕ} {s : Port} {i : ℕ} {t : Port} {j : ℕ} {u : Port} {k : ℕ} → Quiet c xs s i t j → Quiet c xs t j u k → Quiet c xs s i u k
 paths_joined p still = p
 paths_joined p (more q h e) = more (paths_joined p q) h e
 
@@ -46,6 +46,6 @@ module _ (c : Chip) where
       (λ f. each (λ (t : Port). t.settings ≡ s.settings) (takes_bit s x) (λ t. bit_settings s.phase s x (rw t at e))
       (λ t. each (λ (t : Port). t.settings ≡ s.settings) (frame_ends s x) (λ r. refl) (λ r. refl)))
 
-pub settings_quiet : {c : Chip} {xs : List ℕ} {s t : Port} {i j : ℕ} → Quiet c xs s i t j → t.settings ≡ s.settings
+pub settings_quiet : {c : Chip} {xs : List ℕ} {s : Port} {i : ℕ} {t : Port} {j : ℕ} → Quiet c xs s i t j → t.settings ≡ s.settings
 settings_quiet still = refl
 settings_quiet (more q h e) = step_settings _ _ _ e ∙ settings_quiet q

@@ -65,7 +65,7 @@ loop-rising-preserved c =
     let e = c.lane.ensures ∙ f.zeros in
     let b = c.bit_at.ensures ∙ ap (λ (k : ℕ). bit_at (get_or c.args.samples.now (c.args.from.at + k) 0) c.args.line) e in
     let v =
-    c.shift_in-value.ensures ∙ ap (λ (b : Bool). shifted_in c.args.lsb-first c.loop-rising.value
+    c.shift_in-value.ensures ∙ ap (λ (b : Bool). shifted_in c.args.lsb_first c.loop-rising.value
     c.loop-rising.bits b) b in
     let few = c.if-bits-last.false in
     rw v (gathered_more (λ k. (c.type_inv.samples k).fits)

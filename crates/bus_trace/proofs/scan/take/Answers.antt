@@ -9,48 +9,6 @@ use Rattle.bus_trace.specs.Scan.{progress}
 use Rattle.bus_trace.proofs.Dense.{word_nibble_lt, four_more, three_more}
 use Rattle.bus_trace.proofs.Onward.{Going, going_begun, took_join}
 use Rattle.bus_trace.proofs.scan.take.Goals as goal
-use Rattle.bus_trace.proofs.scan.take.Goals.{After-four_bits-more, After-with_four-value, At-loop-p, Start}
-
--- The place where the first four of eight bits are taken, and those before it: the loop's head and the start.
-abbrev Half : Type 0
-Half = After-with_four-value invariant_loop decreases_loop
-
-abbrev at_loop : Half → At-loop-p invariant_loop decreases_loop
-at_loop f = f.before.before.before.before.before.before.before.before.before.before.before.before
-
-abbrev at_start : Half → Start invariant_loop decreases_loop
-at_start f = (at_loop f).before.before
-
--- sixteen samples are there
-room : (f : Half) → (at_loop f).loop.p.at + 16 ≤ length (at_start f).args.samples.now
-room f = omega (arith, f.before.before.before.before.before.before.before.before.before.before.if1.taken, (at_loop f).loop.inv.standing.within)
-
-half_way : (f : Half)
-    → Going (at_start f).args.samples.now (at_start f).args.line (at_start f).args.lsb-first (at_start f).args.last (at_start f).args.from
-    (progress 2 ((at_loop f).loop.p.bits + 4) f.with-four.result ((at_loop f).loop.p.at + 8))
-half_way f =
-    four_more (λ k. ((at_loop f).before.shared-slice-known.given k).fits) (at_start f).pre.1 (at_loop f).loop.inv (omega (arith, room f))
-    f.before.before.before.before.before.before.before.before.before.word_at.ensures
-    (sym f.before.before.before.before.before.before.before.before.levels.ensures
-    ∙ f.before.before.before.before.before.before.before.if2.left)
-    f.before.four-bits.ensures (omega (arith, f.before.before.if4.left)) f.with-four.ensures refl refl
-
--- the second word is as dense as the first
-second_dense : (f : Half) → levels_in 8 f.before.before.before.before.before.before.word-at2.result ≡ 0x0200020002000200
-second_dense f = sym f.before.before.before.before.before.levels2.ensures ∙ f.before.before.before.before.if3.left
-
--- its four bits may follow
-more_fits : (m : After-four_bits-more invariant_loop decreases_loop)
-    → (m.before.with-four.result < 2 ^ ((at_loop m.before).loop.p.bits + 4)) × ((at_loop m.before).loop.p.bits + 4 + 4 ≤ 16)
-    × (m.four-bits2.result < 16) × IsCard (at_start m.before).args.card.now
-more_fits m =
-    let f = m.before in
-    let s = (half_way f).standing in (
-      s.small,
-      omega (arith, f.before.before.if4.false, s.short),
-      word_nibble_lt _ f.before.before.before.before.before.before.word-at2.result (at_start f).args.line m.four-bits2.ensures,
-      (at_start f).requires.2,
-    )
 
 pub loop-p-init : goal.loop-p-init
 loop-p-init c = going_begun c.requires.0
@@ -80,42 +38,70 @@ with_four-value-requires c =
     )
 
 pub overflow_add-p-in-loop-p : goal.overflow_add-p-in-loop-p
-overflow_add-p-in-loop-p c = let s = (at_loop c).loop.inv.standing in omega (arith, s.few, s.short)
+overflow_add-p-in-loop-p c = let s = c.loop-p.invariant.standing in omega (arith, s.few, s.short)
 
 pub overflow_add-p-then-p-last : goal.overflow_add-p-then-p-last
-overflow_add-p-then-p-last c = let s = (at_loop c).loop.inv.standing in omega (arith, s.few, s.short)
+overflow_add-p-then-p-last c = let s = c.loop-p.invariant.standing in omega (arith, s.few, s.short)
 
 pub with_three-requires : goal.with_three-requires
-with_three-requires c = more_fits c
+with_three-requires c =
+    let half : Going c.args.samples.now c.args.line c.args.lsb_first c.args.last c.args.from (progress 2 (c.loop-p.p.bits + 4) c.with_four-value.result (c.loop-p.p.at + 8)) =
+    four_more (λ k. (c.type_inv.samples k).fits) c.requires.1 c.loop-p.invariant (omega (arith, c.loop-p-test.true, c.loop-p.invariant.standing.within))
+    c.word_at-first.ensures (sym c.levels.ensures ∙ c.if-levels-ne-DENSE.false)
+    c.four_bits.ensures (omega (arith, c.if-last-p.false)) c.with_four-value.ensures refl refl in
+    let s = half.standing in (
+      s.small,
+      omega (arith, c.if-last-p.false, s.short),
+      word_nibble_lt _ c.word_at-second.result c.args.line c.four_bits-more.ensures,
+      c.requires.2,
+    )
 
 pub overflow_add-result : goal.overflow_add-result
-overflow_add-result c = omega (arith, room c, (at_start c).well-formed)
+overflow_add-result c = omega (arith, c.loop-p-test.true, c.loop-p.invariant.standing.within, c.well_formed)
 
 pub returns-then-p-last : goal.returns-then-p-last
 returns-then-p-last c =
-    three_more (λ k. ((at_loop c).before.shared-slice-known.given k).fits) (at_start c).requires.1 (half_way c) (omega (arith, room c))
-    c.word_at-second.ensures (second_dense c) c.four_bits-more.ensures
+    let half : Going c.args.samples.now c.args.line c.args.lsb_first c.args.last c.args.from (progress 2 (c.loop-p.p.bits + 4) c.with_four-value.result (c.loop-p.p.at + 8)) =
+    four_more (λ k. (c.type_inv.samples k).fits) c.requires.1 c.loop-p.invariant (omega (arith, c.loop-p-test.true, c.loop-p.invariant.standing.within))
+    c.word_at-first.ensures (sym c.levels.ensures ∙ c.if-levels-ne-DENSE.false)
+    c.four_bits.ensures (omega (arith, c.if-last-p.false)) c.with_four-value.ensures refl refl in
+    three_more (λ k. (c.type_inv.samples k).fits) c.requires.1 half (omega (arith, c.loop-p-test.true, c.loop-p.invariant.standing.within))
+    c.word_at-second.ensures (sym c.levels-in-loop-p.ensures ∙ c.if-levels-ne-DENSE-2.false) c.four_bits-more.ensures
     (omega (arith, c.if-p-last.true)) c.with_three.ensures (omega arith)
 
 pub overflow_add-p-in-loop-p-2 : goal.overflow_add-p-in-loop-p-2
-overflow_add-p-in-loop-p-2 c = let s = (at_loop c).loop.inv.standing in omega (arith, s.few, s.short)
+overflow_add-p-in-loop-p-2 c = let s = c.loop-p.invariant.standing in omega (arith, s.few, s.short)
 
 pub with_four-requires : goal.with_four-requires
-with_four-requires c = more_fits c
+with_four-requires c =
+    let half : Going c.args.samples.now c.args.line c.args.lsb_first c.args.last c.args.from (progress 2 (c.loop-p.p.bits + 4) c.with_four-value.result (c.loop-p.p.at + 8)) =
+    four_more (λ k. (c.type_inv.samples k).fits) c.requires.1 c.loop-p.invariant (omega (arith, c.loop-p-test.true, c.loop-p.invariant.standing.within))
+    c.word_at-first.ensures (sym c.levels.ensures ∙ c.if-levels-ne-DENSE.false)
+    c.four_bits.ensures (omega (arith, c.if-last-p.false)) c.with_four-value.ensures refl refl in
+    let s = half.standing in (
+      s.small,
+      omega (arith, c.if-last-p.false, s.short),
+      word_nibble_lt _ c.word_at-second.result c.args.line c.four_bits-more.ensures,
+      c.requires.2,
+    )
 
 pub overflow_add-p-in-loop-p-3 : goal.overflow_add-p-in-loop-p-3
-overflow_add-p-in-loop-p-3 c = let s = (at_loop c).loop.inv.standing in omega (arith, s.few, s.short)
+overflow_add-p-in-loop-p-3 c = let s = c.loop-p.invariant.standing in omega (arith, s.few, s.short)
 
 pub overflow_add-p-in-loop-p-4 : goal.overflow_add-p-in-loop-p-4
-overflow_add-p-in-loop-p-4 c = omega (arith, room c, (at_start c).well-formed)
+overflow_add-p-in-loop-p-4 c = omega (arith, c.loop-p-test.true, c.loop-p.invariant.standing.within, c.well_formed)
 
 pub loop-p-smaller : goal.loop-p-smaller
-loop-p-smaller c = omega (arith, room c)
+loop-p-smaller c = omega (arith, c.loop-p-test.true, c.loop-p.invariant.standing.within)
 
 pub loop-p-preserved : goal.loop-p-preserved
 loop-p-preserved c =
-    four_more (λ k. ((at_loop c).before.shared-slice-known.given k).fits) (at_start c).requires.1 (half_way c) (omega (arith, room c))
-    c.word_at-second.ensures (second_dense c) c.four_bits-more.ensures
+    let half : Going c.args.samples.now c.args.line c.args.lsb_first c.args.last c.args.from (progress 2 (c.loop-p.p.bits + 4) c.with_four-value.result (c.loop-p.p.at + 8)) =
+    four_more (λ k. (c.type_inv.samples k).fits) c.requires.1 c.loop-p.invariant (omega (arith, c.loop-p-test.true, c.loop-p.invariant.standing.within))
+    c.word_at-first.ensures (sym c.levels.ensures ∙ c.if-levels-ne-DENSE.false)
+    c.four_bits.ensures (omega (arith, c.if-last-p.false)) c.with_four-value.ensures refl refl in
+    four_more (λ k. (c.type_inv.samples k).fits) c.requires.1 half (omega (arith, c.loop-p-test.true, c.loop-p.invariant.standing.within))
+    c.word_at-second.ensures (sym c.levels-in-loop-p.ensures ∙ c.if-levels-ne-DENSE-2.false) c.four_bits-more.ensures
     (omega (arith, c.if-last-p.false, c.if-p-last.false)) c.with_four.ensures (omega arith) (omega arith)
 
 pub take_words-requires : goal.take_words-requires

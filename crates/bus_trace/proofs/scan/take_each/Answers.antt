@@ -4,16 +4,6 @@ use native.Mathlib.Omega.{arith}
 use Rattle.bus_trace.proofs.Advance.{even_level}
 use Rattle.bus_trace.proofs.Onward.{going_begun, going_idle, going_bit, took_all, took_high, took_last}
 use Rattle.bus_trace.proofs.scan.take_each.Goals as goal
-use Rattle.bus_trace.proofs.scan.take_each.Goals.{Need-loop-preserved-2, Need-loop-smaller-2}
-
--- WAS: loop-less-2 : Need-loop-smaller-2 invariant_loop decreases_loop
-loop-less-2 c = omega arith
--- WAS: loop-again-2 : Need-loop-preserved-2 invariant_loop decreases_loop
-loop-again-2 c =
-    rw (c.shift_in.ensures, c.before.bit_at.ensures)
-    (going_bit c.before.before.before.before.before.before.before.loop.invariant
-    c.before.before.before.before.before.before.loop-test.true (even_level _ c.before.before.before.before.if1.false)
-    c.before.before.before.if2.false c.before.before.if3.false)
 
 pub loop-at-init : goal.loop-at-init
 loop-at-init c = going_begun c.requires.0
@@ -52,3 +42,8 @@ returns-then-now-eq1 c = let e = c.if-now-eq1.true in took_high c.loop-at.invari
 
 pub returns-then-bits-last : goal.returns-then-bits-last
 returns-then-bits-last c = took_last c.loop-at.invariant c.if-bits-last.true c.if-now-level.false
+
+pub loop-at-preserved : goal.loop-at-preserved
+loop-at-preserved c =
+    rw (c.shift_in-value.ensures, c.bit_at.ensures)
+    (going_bit c.loop-at.invariant c.loop-at-test.true (even_level _ c.if-now-eq1.false) c.if-now-level.false c.if-bits-last.false)

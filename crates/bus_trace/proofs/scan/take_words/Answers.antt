@@ -7,17 +7,6 @@ use Rattle.bus_words.specs.Lanes.{highs_in, lows_in, rises_in}
 use Rattle.bus_trace.proofs.Onward.{going_begun, took_join}
 use Rattle.bus_trace.proofs.Lanes.{rise_inside, took_rise, word_passed}
 use Rattle.bus_trace.proofs.scan.take_words.Goals as goal
-use Rattle.bus_trace.proofs.scan.take_words.Goals.{After-bits_at-b, At-loop-p}
-
--- The place where a word's bits were taken, and the loop's head before it.
-abbrev Taken : Type 0
-Taken = After-bits_at-b invariant_loop decreases_loop
-
-abbrev at_loop : Taken → At-loop-p invariant_loop decreases_loop
-at_loop w = w.before.before.before.before.before.before.before
-
-room : (w : Taken) → (at_loop w).loop.p.at + 8 ≤ length (at_loop w).before.before.args.samples.now
-room w = omega (arith, w.before.before.before.before.before.if1.taken, (at_loop w).loop.inv.standing.within)
 
 pub loop-p-init : goal.loop-p-init
 loop-p-init c = going_begun c.requires.0
@@ -60,31 +49,31 @@ bits_at-b-requires c =
 pub overflow_add-result : goal.overflow_add-result
 overflow_add-result c =
     let inside =
-    rise_inside (λ k. ((at_loop c).before.shared-slice-known.given k).fits) (at_loop c).loop.invariant (room c) c.bits_at-b.ensures c.if-b-ne0.true
+    rise_inside (λ k. (c.type_inv.samples k).fits) c.loop-p.invariant (omega (arith, c.loop-p-test.true, c.loop-p.invariant.standing.within)) c.bits_at-b.ensures c.if-b-ne0.true
     _ c.lane.ensures in
-    omega (arith, inside, room c, (at_loop c).before.before.well-formed)
+    omega (arith, inside, c.loop-p-test.true, c.loop-p.invariant.standing.within, c.well_formed)
 
 pub returns-then-b-ne0 : goal.returns-then-b-ne0
 returns-then-b-ne0 c =
-    took_rise (λ k. ((at_loop c).before.shared-slice-known.given k).fits) (at_loop c).loop.invariant (room c) c.bits_at-b.ensures c.if-b-ne0.true
+    took_rise (λ k. (c.type_inv.samples k).fits) c.loop-p.invariant (omega (arith, c.loop-p-test.true, c.loop-p.invariant.standing.within)) c.bits_at-b.ensures c.if-b-ne0.true
     _ c.lane.ensures
 
 pub overflow_add-p : goal.overflow_add-p
-overflow_add-p c = omega (arith, room c)
+overflow_add-p c = omega (arith, c.loop-p-test.true, c.loop-p.invariant.standing.within)
 
 pub bounds-samples-at : goal.bounds-samples-at
-bounds-samples-at c = omega (arith, room c)
+bounds-samples-at c = omega (arith, c.loop-p-test.true, c.loop-p.invariant.standing.within)
 
 pub overflow_add-p-in-loop-p : goal.overflow_add-p-in-loop-p
-overflow_add-p-in-loop-p c = omega (arith, room c)
+overflow_add-p-in-loop-p c = omega (arith, c.loop-p-test.true, c.loop-p.invariant.standing.within)
 
 pub loop-p-smaller : goal.loop-p-smaller
-loop-p-smaller c = omega (arith, room c)
+loop-p-smaller c = omega (arith, c.loop-p-test.true, c.loop-p.invariant.standing.within)
 
 pub loop-p-preserved : goal.loop-p-preserved
 loop-p-preserved c =
     let none-high = c.highs.ensures ∙ ap (highs_in 8) c.word_at-word.ensures in
-    word_passed (λ k. ((at_loop c).before.shared-slice-known.given k).fits) (at_loop c).loop.invariant (room c) c.bits_at-b.ensures c.if-b-ne0.false
+    word_passed (λ k. (c.type_inv.samples k).fits) c.loop-p.invariant (omega (arith, c.loop-p-test.true, c.loop-p.invariant.standing.within)) c.bits_at-b.ensures c.if-b-ne0.false
     (sym none-high ∙ c.if-highs-ne0.false)
 
 pub take_each-requires : goal.take_each-requires
