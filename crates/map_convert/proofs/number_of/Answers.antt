@@ -1,7 +1,7 @@
 -- `number_of` meets its contract: each test is one of the number's, in their order. A good map has the size that its version and n give.
 use mathlib.Core.Path.{◌≡◌, refl, sym, ◌∙◌}
 use mathlib.Core.Bool.{true, ◌||◌}
-use Prim.Native.Nat.{◌≤◌}
+use Prim.Native.Nat.{◌+◌, ◌*◌, ◌≤◌}
 use native.Mathlib.Omega.{arith}
 use borrow.Author.Tests.{eq-eqb, ne_eqb, lt-leb, le-leb}
 use lib.ListN.{length}
@@ -13,6 +13,7 @@ use Rattle.map_format.proofs.Laws.{head_size_bounds}
 use Rattle.map_test.specs.MapTest.{map_number}
 use Rattle.map_test.proofs.Laws.{good_count}
 use Rattle.map_convert.specs.Convert.{converted_to, convert_number}
+use Rattle.map_convert.proofs.Laws.{length_converted}
 use Rattle.map_convert.proofs.number_of.Goals as goal
 
 pub returns-then-number-ne-DONE : goal.returns-then-number-ne-DONE
@@ -44,7 +45,9 @@ returns-then-room-head_size c =
     let unflagged : let a = c.args in (eqb a.wished 2 || eqb (flags_of a.map.now) 0) ≡ true =
     rw c.flags.ensures at c.if-wished-flags.true in
     let a = c.args in
-    let small = lt-leb (length (converted_to a.wished a.map.now)) a.room (omega (arith, size c, c.if-room-head_size.true)) in
+    let size : length (converted_to a.wished a.map.now) ≡ c.head_size.result + 3 * c.count.result =
+    omega (arith, length_converted a.wished a.map.now good, c.head_size.ensures, c.count.ensures) in
+    let small = lt-leb (length (converted_to a.wished a.map.now)) a.room (omega (arith, size, c.if-room-head_size.true)) in
     yes _ (eq-eqb _ 0 good) (yes _ unflagged (no _ small refl))
 
 pub returns-then-wished-flags : goal.returns-then-wished-flags
@@ -55,7 +58,9 @@ returns-then-wished-flags c =
     let unflagged : let a = c.args in (eqb a.wished 2 || eqb (flags_of a.map.now) 0) ≡ true =
     rw c.flags.ensures at c.if-wished-flags.true in
     let a = c.args in
-    let enough = le-leb (length (converted_to a.wished a.map.now)) a.room (omega (arith, size c, c.if-room-head_size.false)) in
+    let size : length (converted_to a.wished a.map.now) ≡ c.head_size.result + 3 * c.count.result =
+    omega (arith, length_converted a.wished a.map.now good, c.head_size.ensures, c.count.ensures) in
+    let enough = le-leb (length (converted_to a.wished a.map.now)) a.room (omega (arith, size, c.if-room-head_size.false)) in
     yes _ (eq-eqb _ 0 good) (yes _ unflagged (yes _ enough refl))
 
 pub returns : goal.returns

@@ -32,7 +32,7 @@ returns-then-version-wished c =
 
 pub put_head-n-requires : goal.put_head-n-requires
 put_head-n-requires c =
-    let t = tests c in
+    let t : ConvertTests c.args.wished c.args.map.now (length c.args.out.now) = convert_tests _ _ _ c.requires in
     let e = c.count.ensures in (
       omega (arith, e, (good_count Newer _ t.good).1),
       omega (arith, length_head c.args.wished c.count.result, length_converted c.args.wished _ t.good, t.enough),
@@ -41,7 +41,7 @@ put_head-n-requires c =
 pub put_rest-requires-2 : goal.put_rest-requires-2
 put_rest-requires-2 c =
     let m = c.args.map.now in
-    let t = tests c in
+    let t : ConvertTests c.args.wished c.args.map.now (length c.args.out.now) = convert_tests _ _ _ c.requires in
     let n = c.count.result in
     let e = c.head.ensures in (
       omega (arith, e, good_form Newer m t.good),

@@ -1,6 +1,6 @@
 -- `put_rest` meets its contract: what is put so far, with the bytes of the map that are left, is the whole.
 use mathlib.Core.Path.{refl}
-use Prim.Native.Nat.{◌+◌, ◌-◌, ◌≤◌}
+use Prim.Native.Nat.{◌+◌, ◌≤◌}
 use native.Mathlib.Omega.{arith}
 use lib.ListN.{length, drop_of_length-le}
 use Rattle.base_bits.proofs.Putting.{putting_begun, next_byte, next_fits, further, ended}

@@ -1,42 +1,33 @@
 -- `list_length` meets its contract: what is counted so far, with the entries that are left, is the whole list.
-use mathlib.Core.Path.{ap, ◌∙◌}
-use Prim.Native.Nat.{ℕ, ◌+◌, ◌-◌}
+use mathlib.Core.Path.{◌≡◌, ap, ◌∙◌}
+use Prim.Native.Nat.{ℕ, ◌+◌}
 use native.Mathlib.Omega.{arith}
 use lib.ListN as list
 use Rattle.map_format.specs.declared.Entry.{Entry}
-use Rattle.map_format.specs.Format.{entry_at}
+use Rattle.map_format.specs.Format.{entry_at, register_at}
 use Rattle.map_mend.specs.Mend.{altered_at, altered_from}
-use Rattle.map_mend.proofs.Listed.{ListCounting, list_counting_begun, again, counted_most, ended}
+use Rattle.map_mend.proofs.Listed.{ListCounting, again, counted_most, ended}
 use Rattle.map_mend.proofs.list_length.Goals as goal
-use Rattle.map_mend.proofs.list_length.Goals.{After-listed_size-length}
-
--- one entry more is counted
-counted :
-    (c : After-listed_size-length invariant_loop decreases_loop)
-    → let at = c.before.before.before in
-    ListCounting at.before.before.before.args.map.now at.before.count.result (at.loop.length + c.listed-size.result) (at.loop.address + 1)
-counted c =
-    let at = c.before.before.before in
-    let m = at.before.before.before.args.map.now in
-    let a = at.loop.address in
-    let entry = c.before.entry_at.ensures ∙ ap (λ (n : ℕ). entry_at m n a) at.before.count.ensures in
-    again _ _ _ _ at.loop.invariant _ (c.listed-size.ensures ∙ ap (λ (e : Entry). list.length (altered_at a e)) entry) c.before.before.loop-test.true
-
-pub loop-address-init : goal.loop-address-init
-loop-address-init c = list_counting_begun _ _
 
 pub overflow_add-length : goal.overflow_add-length
 overflow_add-length c =
-    omega (arith, counted_most _ _ _ _ (counted c), c.count-n.ensures, c.requires.most)
-
-pub overflow_add-address : goal.overflow_add-address
-overflow_add-address c = omega arith
-
-pub loop-address-smaller : goal.loop-address-smaller
-loop-address-smaller c = omega arith
+    let m = c.args.map.now in
+    let turn = c.loop-address in
+    let entry : c.entry_at.result ≡ register_at m turn.address = c.entry_at.ensures ∙ ap (λ (n : ℕ). entry_at m n turn.address) c.count-n.ensures in
+    let size : c.listed_size-length.result ≡ list.length (altered_at turn.address (register_at m turn.address)) =
+    c.listed_size-length.ensures ∙ ap (λ (e : Entry). list.length (altered_at turn.address e)) entry in
+    let counted : ListCounting m c.count-n.result (turn.length + c.listed_size-length.result) (turn.address + 1) =
+    again _ _ _ _ turn.invariant _ size c.loop-address-test.true in
+    omega (arith, counted_most _ _ _ _ counted, c.count-n.ensures, c.requires.most)
 
 pub loop-address-preserved : goal.loop-address-preserved
-loop-address-preserved c = counted c
+loop-address-preserved c =
+    let m = c.args.map.now in
+    let turn = c.loop-address in
+    let entry : c.entry_at.result ≡ register_at m turn.address = c.entry_at.ensures ∙ ap (λ (n : ℕ). entry_at m n turn.address) c.count-n.ensures in
+    let size : c.listed_size-length.result ≡ list.length (altered_at turn.address (register_at m turn.address)) =
+    c.listed_size-length.ensures ∙ ap (λ (e : Entry). list.length (altered_at turn.address e)) entry in
+    again _ _ _ _ turn.invariant _ size c.loop-address-test.true
 
 pub returns : goal.returns
 returns c =

@@ -1,5 +1,4 @@
 use Prim.Native.Nat.{◌-◌}
-use lib.ListN as list
 use Rattle.map_mend.proofs.Listed.{ListCounting}
 use Rattle.map_mend.proofs.list_length.Given as goal
 
