@@ -68,4 +68,4 @@ pub read_done : (c : Chip) (m : List ℕ) (w : ReaderState) (xs records : List �
 unfolding read_of
 read_done c m w xs records n e z after size new d =
     let count : size / record_size ≡ record_count c w.session.port xs = omega (arith, d.size_is, records_size c m xs w) in
-    yes _ (eq-eqb (read_number c m w xs (length records)) 0 (sym e ∙ z)) (rw (d.state_after_lem, d.records_after, count))
+    yes _ (eq-eqb (read_number c m w xs (length records)) 0 (sym e ∙ z)) (rw (d.next_state, d.records_after, count))

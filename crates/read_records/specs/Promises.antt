@@ -19,7 +19,7 @@ touched_on ws a effect = cond (touches_on effect) (touched_words ws a) ws
 
 -- the end of a frame, by the bits that it breaks off
 abbrev pub end_of : ℕ → ℕ → Bool → Event
-end_of address bits in_data_lem = cond (eqb bits 0) Ended (Aborted address bits in_data_lem)
+end_of address bits is_data_piece = cond (eqb bits 0) Ended (Aborted address bits is_data_piece)
 
 -- before an event is taken: the map fits the banks, each register has its bit, and there is room for the record
 pub record EventBefore (c : Chip) (m : List ℕ) (b : Banks) (ws : List ℕ) (t : Settings) (e : Event) (old : List ℕ) (at : ℕ) : Type 0 where

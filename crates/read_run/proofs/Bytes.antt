@@ -27,7 +27,7 @@ settings_next c s byte = settings_on_byte c (scanned_port s) byte
 module _ {c : Chip} {newer : Bool} {s : ScanPort} (pre : WholeByteBefore c newer s) (byte : ℕ) where
   -- the line stays
   line_stays : s.line ≡ source_line c (with_phase s.port Data)
-  line_stays = pre.tracks.line_is ∙ ap (λ (n : ℕ). source_line c (with_phase s.port (phase_of_last n))) pre.in_data_lem
+  line_stays = pre.tracks.line_is ∙ ap (λ (n : ℕ). source_line c (with_phase s.port (phase_of_last n))) pre.is_data_piece
 
   -- q is the port with the settings after it
   module _ {q : Port} (eq : q ≡ settled s.port (settings_next c s byte)) where
@@ -45,7 +45,7 @@ module _ {c : Chip} {newer : Bool} {s : ScanPort} (pre : WholeByteBefore c newer
       byte_single =
           of_it (λ (t : Port). t.in_use.single_instruction ≡ true) (λ (t : Port). scan_start (on_line (at_address t 0 false t.left) 2))
           (λ o. record {
-            port_after_lem =
+            next_port =
                 sym (after_single c (with_phase s.port Data) (settings_next c s byte) is_newer_lem pre.framed.low (pre.framed.none_left is_newer_lem) o);
             tracks = record { sized = refl; line_is = refl };
           })
@@ -56,7 +56,7 @@ module _ {c : Chip} {newer : Bool} {s : ScanPort} (pre : WholeByteBefore c newer
           of_it (λ (t : Port). (t.in_use.single_instruction ≡ false) × (a ≡ next_address t.in_use.ascending t.address))
           (λ (t : Port). on_line (at_address t a t.read t.left) s.line)
           (λ o. record {
-            port_after_lem =
+            next_port =
                 rw o.1 (sym (after_next c (with_phase s.port Data) (settings_next c s byte) is_newer_lem pre.framed.low refl
                 (pre.framed.none_left is_newer_lem) o.0));
             tracks = record { sized = refl; line_is = line_stays };
@@ -70,7 +70,7 @@ module _ {c : Chip} {newer : Bool} {s : ScanPort} (pre : WholeByteBefore c newer
       byte_ends =
           of_it (λ (t : Port). runs_out c t.left t.address t.in_use.lsb_first ≡ true) (λ (t : Port). scan_rest (on_line t s.line))
           (λ o. record {
-            port_after_lem = sym (after_run_ends c (with_phase s.port Data) (settings_next c s byte) is_older pre.framed.low o);
+            next_port = sym (after_run_ends c (with_phase s.port Data) (settings_next c s byte) is_older pre.framed.low o);
             tracks = record { sized = refl; line_is = refl };
           })
 
@@ -84,7 +84,7 @@ module _ {c : Chip} {newer : Bool} {s : ScanPort} (pre : WholeByteBefore c newer
           × (a ≡ next_address t.in_use.lsb_first t.address) × (l ≡ cond (is_counted t.left) (t.left - 1) t.left))
           (λ (t : Port). on_line (at_address t a t.read l) s.line)
           (λ o. record {
-            port_after_lem =
+            next_port =
                 rw (o.1, o.2) (sym (after_run c (with_phase s.port Data) (settings_next c s byte) is_older pre.framed.low refl o.0));
             tracks = record { sized = refl; line_is = line_stays };
           })

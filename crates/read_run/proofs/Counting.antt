@@ -39,7 +39,7 @@ counted {c} {xs} {s₀} {s} {size} {i} h k = record {
   rest = rw add-one (omega (arith, rw (drop-cons xs i 0) at k.rest));
 }
 
-pub still_counting : {c : Chip} {xs : List ℕ} {s₀ s t : Port} {size i j : ℕ} → Counting c xs s₀ s size i → Quiet c xs s i t j → Counting c xs s₀ t size j
+pub still_counting : {c : Chip} {xs : List ℕ} {s₀ s : Port} {size i : ℕ} {t : Port} {j : ℕ} → Counting c xs s₀ s size i → Quiet c xs s i t j → Counting c xs s₀ t size j
 still_counting k still = k
 still_counting {size = size} k (more q h e) = rw (e, add-zero size) at (counted h (still_counting k q))
 

@@ -90,7 +90,7 @@ ended {c} {m} {xs} {w₀} {w} {old} {new} {n} {i} h k =
     let e : records_of c m w (drop i xs) ≡ [] = rw (drop_of_length-le xs h) in
     let a : run_of c m w (drop i xs) ≡ w = rw (drop_of_length-le xs h) in
     record {
-      state_after_lem = sym a ∙ k.after;
+      next_state = sym a ∙ k.after;
       size_is = omega (arith, ap length e, k);
       records_after = (rw e at k.rest) ∙ sets-eq (records_of c m w₀ xs) old 0 (omega (arith, k)) ∙ rw zero-add;
     }
@@ -112,7 +112,7 @@ again_one {c} {m} {xs} {w₀} {s} {armed} {act} {buf} {ws} {old} {new} {n} {i} h
     rw (ew, en, er) (turned h k)
 
 -- samples that give no event
-pub still_reading : {c : Chip} {m xs : List ℕ} {w₀ : ReaderState} {s t : Port} {armed : Bool} {act buf ws old new : List ℕ} {n i j : ℕ}
+pub still_reading : {c : Chip} {m xs : List ℕ} {w₀ : ReaderState} {s : Port} {armed : Bool} {act buf ws old new : List ℕ} {n i : ℕ} {t : Port} {j : ℕ}
     → Reading c m xs w₀ (reader_state_of s armed act buf ws) old new n i → Quiet c xs s i t j → Reading c m xs w₀ (reader_state_of t armed act buf ws) old new n j
 unfolding banks_after armed_after touched_after record_of
 still_reading k still = k

@@ -195,7 +195,7 @@ module _ {c : Chip} {storing : Bool} {m xs : List ℕ} {w₀ : ReaderState} {old
     pub turn_enters : s.last ≡ 15 → {r : ScanPort} → EnterAfter c s (get_or xs i 0) r → RunTo c storing m xs w₀ old act buf ws new r told (i + 1)
     turn_enters e a =
         quiet_to a.tracks (
-          instruction_whole c (scanned_port s) sound (get_or xs i 0) takes_bit_lem (ap phase_of_last e) (full e) ∙ sym a.port_after_lem,
+          instruction_whole c (scanned_port s) sound (get_or xs i 0) takes_bit_lem (ap phase_of_last e) (full e) ∙ sym a.next_port,
           no_byte c (scanned_port s) (get_or xs i 0) takes_bit_lem (ap (λ (n : ℕ). is_data (phase_of_last n)) e),
         )
 
@@ -209,7 +209,7 @@ module _ {c : Chip} {storing : Bool} {m xs : List ℕ} {w₀ : ReaderState} {old
       }
 
       pub byte_taken : {newer : Bool} → newer ≡ is_newer c → WholeByteBefore c newer s
-      byte_taken n = record { framed = framed n; tracks = k.run.tracks; in_data_lem = e; near = (fit_sound c (scanned_port s) sound).near }
+      byte_taken n = record { framed = framed n; tracks = k.run.tracks; is_data_piece = e; near = (fit_sound c (scanned_port s) sound).near }
 
       module _ {v : ℕ} (ev : v ≡ value_with s.port (bit_at (get_or xs i 0) s.line)) where
         pub stop_whole : NextPath c xs (scanned_port s) i (Whole s.port.read s.port.address v)
@@ -229,7 +229,7 @@ module _ {c : Chip} {storing : Bool} {m xs : List ℕ} {w₀ : ReaderState} {old
         turn_byte {act'} {buf'} {ws'} {new'} {took} a b =
             record {
               running = subst (λ (t : Port). Running c storing m xs w₀ (reader_state_of t took.armed act' buf' ws') old new' took.at (i + 1))
-                  (sym b.port_after_lem) (running_on k.run.running stop_whole a);
+                  (sym b.next_port) (running_on k.run.running stop_whole a);
               tracks = b.tracks;
             }
 

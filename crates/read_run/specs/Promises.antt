@@ -50,7 +50,7 @@ pub record EnterBefore (c : Chip) (newer : Bool) (s : ScanPort) : Type 0 where
   pub room : BitBounds s
 
 pub record EnterAfter (c : Chip) (s : ScanPort) (x : ℕ) (r : ScanPort) : Type 0 where
-  pub port_after_lem : scanned_port r ≡ entered c (value_with s.port (bit_at x 2)) s.port.settings s.port.in_use
+  pub next_port : scanned_port r ≡ entered c (value_with s.port (bit_at x 2)) s.port.settings s.port.in_use
   pub tracks : Tracks c r
 
 -- before the last bit of a byte
@@ -63,11 +63,11 @@ pub record ByteBounds (s : ScanPort) (x : ℕ) : Type 0 where
 pub record WholeByteBefore (c : Chip) (newer : Bool) (s : ScanPort) : Type 0 where
   pub framed : InFrame c newer s
   pub tracks : Tracks c s
-  pub in_data_lem : s.last ≡ 7
+  pub is_data_piece : s.last ≡ 7
   pub near : s.port.address < 0x8000
 
 pub record WholeByteAfter (c : Chip) (s : ScanPort) (byte : ℕ) (r : ScanPort) : Type 0 where
-  pub port_after_lem : scanned_port r ≡ after_byte c (scanned_port s) (settings_on_byte c (scanned_port s) byte)
+  pub next_port : scanned_port r ≡ after_byte c (scanned_port s) (settings_on_byte c (scanned_port s) byte)
   pub tracks : Tracks c r
 
 -- before an event is taken, or only counted where no record is put
@@ -91,7 +91,7 @@ pub record RunBefore (c : Chip) (storing : Bool) (m : List ℕ) (w : ReaderState
 
 -- after them, where their records are put: the session, the banks and the words, how many bytes of records, and the record buffer
 pub record RunDone (c : Chip) (m : List ℕ) (w : ReaderState) (samples old : List ℕ) (after : ReaderState) (size : ℕ) (new : List ℕ) : Type 0 where
-  pub state_after_lem : after ≡ run_of c m w samples
+  pub next_state : after ≡ run_of c m w samples
   pub size_is : size ≡ length (records_of c m w samples)
   pub records_after : new ≡ filled (records_of c m w samples) old
 

@@ -1,5 +1,7 @@
 // What a list of samples does, in one pass over them from stop to stop: the session, the banks and the words that they lead to, and
 // their records, put or only counted.
+#![tactic(auto)]
+
 ghost use Rattle.std.specs.Prelude.{◌≡◌};
 ghost use Rattle.read_run.specs.Reading.{reader_state};
 ghost use Rattle.read_run.specs.Promises.{none_told, run_end, RunBefore, RunAfter};

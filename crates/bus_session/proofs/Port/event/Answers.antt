@@ -30,14 +30,14 @@ unless_both false b e = refl
 
 -- the event of s, by whether it takes a bit, whether that is data, and the level of CSB
 abbrev event_by : Chip → Port → ℕ → Bool → Bool → Bool → Bool → Event
-event_by k s x takes in_data_lem csb stall =
+event_by k s x takes is_data_piece csb stall =
     cond takes
-    (cond (not in_data_lem || ltb s.bits 7) Nothing (Whole s.read s.address (value_with s (data_line k s x))))
-    (cond (not (not s.csb && csb) || stall) Nothing (cond (eqb s.bits 0) Ended (Aborted s.address s.bits in_data_lem)))
+    (cond (not is_data_piece || ltb s.bits 7) Nothing (Whole s.read s.address (value_with s (data_line k s x))))
+    (cond (not (not s.csb && csb) || stall) Nothing (cond (eqb s.bits 0) Ended (Aborted s.address s.bits is_data_piece)))
 
-event_by_lem : (k : Chip) (s : Port) (x : ℕ) {takes in_data_lem csb stall : Bool} → takes ≡ takes_bit s x → in_data_lem ≡ is_data s.phase → csb ≡ csb_of x
+event_by_lem : (k : Chip) (s : Port) (x : ℕ) {takes is_data_piece csb stall : Bool} → takes ≡ takes_bit s x → is_data_piece ≡ is_data s.phase → csb ≡ csb_of x
     → stall ≡ may_stall s
-    → event_by k s x takes in_data_lem csb stall ≡ event_of k s x
+    → event_by k s x takes is_data_piece csb stall ≡ event_of k s x
 unfolding event_of bit_event end_event
 event_by_lem k s x d e f g =
     (λ i. event_by k s x (d i) (e i) (f i) (g i))

@@ -17,7 +17,7 @@ put-abort-requires : tie.Need-put-abort-requires
 put-abort-requires c κs = simp length-set (omega arith)
 
 put : (c : tie.After-slice-known2)
-    → let a = c.before.before.before.before.before.args in Put a.records.now a.at a.chip (abort_record a.address a.bits a.in_data_lem)
+    → let a = c.before.before.before.before.before.args in Put a.records.now a.at a.chip (abort_record a.address a.bits a.is_data_piece)
     c.before.before.put-abort.new.0
 put c = put_after _ _ _ _ c.before.before.put-abort.ensures
 
