@@ -1,4 +1,6 @@
 // The numbers of the reader's two calls: document 01's refusals in their order. Nothing is changed here.
+#![tactic(auto)]
+
 ghost use Rattle.std.specs.Prelude.{◌≡◌, ◌+◌, ◌/◌, ◌≤◌, eqb, length};
 ghost use Rattle.map_test.specs.MapTest.{map_number};
 ghost use Rattle.reg_banks.specs.Banks.{banks};

@@ -22,7 +22,7 @@ use Rattle.several_chips.specs.declared.Member.{Member}
 use Rattle.several_chips.specs.contracts.Member.{the_type}
 
 -- what an array of bytes by value tells of each
-each_small : (xs : List ℕ) (us : List Val) → shadow (each ℕ (UInt w8).own_val (map (λ v. v) xs) us) → (i : ℕ) → get_or xs i 0 < 256
+each_small : (xs : List ℕ) (us : List Val) → shadow (each ℕ (UInt w8).own_val xs us) → (i : ℕ) → get_or xs i 0 < 256
 each_small [] us s i = lit< tt
 each_small (x ∷ xs) [] s i = absurd s
 each_small (x ∷ xs) (u ∷ us) s zero = s.0.1

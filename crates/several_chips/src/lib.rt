@@ -1,4 +1,5 @@
 // Several chips on one wire: what one chip of a list is, and what it makes of a sample.
+#![tactic(auto)]
 
 mod numbered;
 mod step;

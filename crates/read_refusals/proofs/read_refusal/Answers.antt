@@ -1,0 +1,52 @@
+-- `read_refusal` meets its contract: the tests in the order of their numbers.
+use mathlib.Core.Path.{◌≡◌, sym, ◌∙◌}
+use mathlib.Core.Bool.{true}
+use native.Mathlib.Omega.{arith}
+use borrow.Author.Tests.{not-false}
+use Rattle.map_test.proofs.Laws.{good_count}
+use Rattle.bus_session.specs.State.{sound_session}
+use Rattle.reg_banks.specs.Banks.{banks}
+use Rattle.read_refusals.specs.Numbers.{open_number, words_fit}
+use Rattle.read_refusals.proofs.Laws.{unsound, not_opened, other_words, too_many, one_bad, room_found, room_short}
+use Rattle.read_refusals.proofs.read_refusal.Goals as goal
+
+pub returns-then-not-sound : goal.returns-then-not-sound
+returns-then-not-sound c = unsound _ _ _ _ _ (sym c.sound.ensures ∙ c.if-not-sound.true)
+
+pub returns-then-opens-ne-DONE : goal.returns-then-opens-ne-DONE
+returns-then-opens-ne-DONE c =
+    let sound = sym c.sound.ensures ∙ c.if-not-sound.false in
+    let opens = c.open_refusal-opens.ensures in
+    opens ∙ not_opened _ _ _ _ _ sound (λ q. c.if-opens-ne-DONE.true (opens ∙ q))
+
+pub words_fit-requires : goal.words_fit-requires
+words_fit-requires c =
+    omega (arith, c.count.ensures, (good_count _ _ c.requires).1)
+
+pub returns-then-not-words_fit : goal.returns-then-not-words_fit
+returns-then-not-words_fit c =
+    other_words _ _ _ _ _ (sym c.sound.ensures ∙ c.if-not-sound.false) (sym c.open_refusal-opens.ensures ∙ c.if-opens-ne-DONE.false) _ (rw c.count.ensures at c.words_fit.ensures) c.if-not-words_fit.true
+
+pub returns-then-samples-gt65536 : goal.returns-then-samples-gt65536
+returns-then-samples-gt65536 c =
+    too_many _ _ _ _ _ (sym c.sound.ensures ∙ c.if-not-sound.false) (sym c.open_refusal-opens.ensures ∙ c.if-opens-ne-DONE.false) _ (rw c.count.ensures at c.words_fit.ensures) c.if-not-words_fit.false c.if-samples-gt65536.true
+
+pub returns-then-not-samples_good : goal.returns-then-not-samples_good
+returns-then-not-samples_good c =
+    one_bad _ _ _ _ _ (sym c.sound.ensures ∙ c.if-not-sound.false) (sym c.open_refusal-opens.ensures ∙ c.if-opens-ne-DONE.false) _ (rw c.count.ensures at c.words_fit.ensures) c.if-not-words_fit.false c.if-samples-gt65536.false
+    _ c.samples_good.ensures c.if-not-samples_good.true
+
+pub room_suffices-requires : goal.room_suffices-requires
+room_suffices-requires c = (sym c.sound.ensures ∙ c.if-not-sound.false, c.if-samples-gt65536.false)
+
+pub returns-then-room_suffices : goal.returns-then-room_suffices
+returns-then-room_suffices c =
+    room_found _ _ _ _ _ (sym c.sound.ensures ∙ c.if-not-sound.false) (sym c.open_refusal-opens.ensures ∙ c.if-opens-ne-DONE.false) _ (rw c.count.ensures at c.words_fit.ensures) c.if-not-words_fit.false
+    c.if-samples-gt65536.false _ c.samples_good.ensures c.if-not-samples_good.false
+    _ c.room_suffices.ensures c.if-room_suffices.true
+
+pub returns : goal.returns
+returns c =
+    room_short _ _ _ _ _ (sym c.sound.ensures ∙ c.if-not-sound.false) (sym c.open_refusal-opens.ensures ∙ c.if-opens-ne-DONE.false) _ (rw c.count.ensures at c.words_fit.ensures) c.if-not-words_fit.false
+    c.if-samples-gt65536.false _ c.samples_good.ensures c.if-not-samples_good.false
+    _ c.room_suffices.ensures c.if-room_suffices.false
