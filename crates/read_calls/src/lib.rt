@@ -2,6 +2,8 @@
 //
 // Two public calls, `open` and `read`, each also for the older parts and for any chip, with no `requires`: anything may be handed in, and
 // what cannot be read is refused with document 01's number before anything is changed.
+#![tactic(auto)]
+
 ghost use Rattle.std.specs.Prelude.{◌≡◌};
 ghost use Rattle.base_chip.specs.declared.Chip.TheVariants.{Newer, Older};
 ghost use Rattle.map_test.specs.MapTest.{map_number};

@@ -1,4 +1,6 @@
 // The numbers of reading several chips, in their order. Nothing is changed here.
+#![tactic(auto)]
+
 ghost use Rattle.std.specs.Prelude.{◌≡◌};
 ghost use Rattle.several_refusals.specs.Group.{group_number};
 
