@@ -1,4 +1,6 @@
 // The sender: the samples of one read or write run, from an order, or the number that refuses it.
+#![tactic(auto)]
+
 ghost use Rattle.std.specs.Prelude.{◌≡◌, [], ◌≤◌};
 ghost use Rattle.base_chip.specs.declared.Chip.TheVariants.{Newer};
 ghost use Rattle.send_order.specs.Order.{order, with_data};
