@@ -1,4 +1,6 @@
 // A whole setup in one call: the orders of a list, each sent after the one before it.
+#![tactic(auto)]
+
 ghost use Rattle.std.specs.Prelude.{◌≡◌, true, ◌+◌, ◌≤◌, length, drop};
 ghost use Rattle.base_bits.specs.Buffer.{Put};
 ghost use Rattle.base_bits.specs.Bytes.{word_at};

@@ -1,0 +1,10 @@
+-- `stopped` meets its contract: 14 where what is left is not good.
+use mathlib.Core.Path.{refl, sym, ◌∙◌}
+use Rattle.base_bits.proofs.Cases.{yes, no}
+use Rattle.send_setup.proofs.stopped.Goals as goal
+
+pub returns-then-good_from : goal.returns-then-good_from
+returns-then-good_from c = yes _ (sym c.good_from.ensures ∙ c.if-good_from.true) refl
+
+pub returns : goal.returns
+returns c = no _ (sym c.good_from.ensures ∙ c.if-good_from.false) refl
