@@ -1,4 +1,6 @@
 // The fewest frames: as few streaming write orders as can be, made of single registers and their bytes.
+#![tactic(auto)]
+
 ghost use Rattle.std.specs.Prelude.{◌≡◌, Bool, true, ◌+◌, ◌<◌, length, get_or, drop};
 ghost use Rattle.base_bits.specs.Buffer.{Put};
 ghost use Rattle.base_bits.specs.Tests.{every};
