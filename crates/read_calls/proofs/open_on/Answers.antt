@@ -9,23 +9,11 @@ reset-requires c =
     let t = opens _ _ _ (sym c.open_refusal-number.ensures ∙ c.if-number-eq-DONE.true) in
     fits_mapped _ _ t.fits
 
-pub shape_of-active-then-number-eq-DONE : goal.shape_of-active-then-number-eq-DONE
-shape_of-active-then-number-eq-DONE c = c.reset.auto.1.0
-
-pub shape_of-buffer-then-number-eq-DONE : goal.shape_of-buffer-then-number-eq-DONE
-shape_of-buffer-then-number-eq-DONE c = c.reset.auto.1.1.0
-
 pub returns-then-number-eq-DONE : goal.returns-then-number-eq-DONE
 returns-then-number-eq-DONE c =
     open_done _ _ _ _ c.open_refusal-number.ensures _
     c.opened-session.ensures
     c.if-number-eq-DONE.true _ c.reset.ensures
-
-pub shape_of-active-else-number-eq-DONE : goal.shape_of-active-else-number-eq-DONE
-shape_of-active-else-number-eq-DONE c = refl
-
-pub shape_of-buffer-else-number-eq-DONE : goal.shape_of-buffer-else-number-eq-DONE
-shape_of-buffer-else-number-eq-DONE c = refl
 
 pub returns-else-number-eq-DONE : goal.returns-else-number-eq-DONE
 returns-else-number-eq-DONE c = open_refused _ _ _ _ c.open_refusal-number.ensures _ c.opened-session.ensures c.if-number-eq-DONE.false

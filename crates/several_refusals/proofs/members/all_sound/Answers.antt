@@ -26,11 +26,11 @@ pub loop-i-preserved : goal.loop-i-preserved
 unfolding all_sound
 loop-i-preserved c =
     let at = c.loop-i in
-    chip_more all_sound c.args.t1 c.requires at.i at.good sound_member c.sound_member-good.result (λ w ws. refl)
+    chip_more all_sound c.args.group c.requires at.i at.good sound_member c.sound_member-good.result (λ w ws. refl)
     c.loop-i-test.true c.sound_member-good.ensures at.invariant
 
 pub returns : goal.returns
 unfolding all_sound
 returns c =
     let at = c.loop-i in
-    chips_passed all_sound c.args.t1 c.requires at.i at.good refl c.loop-i-test.false at.invariant
+    chips_passed all_sound c.args.group c.requires at.i at.good refl c.loop-i-test.false at.invariant

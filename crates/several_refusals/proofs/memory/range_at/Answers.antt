@@ -4,8 +4,8 @@ use Rattle.several_refusals.proofs.memory.range_at.Goals as goal
 
 pub returns-then-k-eq0 : goal.returns-then-k-eq0
 returns-then-k-eq0 c =
-    even_place c.args.t1 c.args.k _ _ c.requires.0 c.requires.1 c.if-k-eq0.true
+    even_place c.args.group c.args.k _ _ c.requires.0 c.requires.1 c.if-k-eq0.true
 
 pub returns : goal.returns
 returns c =
-    odd_place c.args.t1 c.args.k _ _ c.requires.0 c.requires.1 c.if-k-eq0.false
+    odd_place c.args.group c.args.k _ _ c.requires.0 c.requires.1 c.if-k-eq0.false

@@ -27,7 +27,7 @@ pub loop-i-preserved : goal.loop-i-preserved
 unfolding ranges_fit
 loop-i-preserved c =
     let at = c.loop-i in
-    chip_more (ranges_fit c.args.length) c.args.t1 c.requires at.i at.good
+    chip_more (ranges_fit c.args.length) c.args.group c.requires at.i at.good
     (λ w. eqb w.active_length c.args.length && eqb w.buffer_length c.args.length) _
     (λ w ws. refl) c.loop-i-test.true refl at.invariant
 
@@ -35,4 +35,4 @@ pub returns : goal.returns
 unfolding ranges_fit
 returns c =
     let at = c.loop-i in
-    chips_passed (ranges_fit c.args.length) c.args.t1 c.requires at.i at.good refl c.loop-i-test.false at.invariant
+    chips_passed (ranges_fit c.args.length) c.args.group c.requires at.i at.good refl c.loop-i-test.false at.invariant

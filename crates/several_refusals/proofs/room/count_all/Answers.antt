@@ -19,15 +19,15 @@ overflow_cast-i c = omega (arith, c.requires.listed)
 
 pub count_records-count-requires : goal.count_records-count-requires
 count_records-count-requires c =
-    next_asked c.args.t1 c.args.samples.now c.requires c.loop-i.i c.loop-i-test.true c.port_of.ensures
+    next_asked c.args.group c.args.samples.now c.requires c.loop-i.i c.loop-i-test.true c.port_of.ensures
 
 pub overflow_add-count : goal.overflow_add-count
 overflow_add-count c =
     let at = c.loop-i in
     omega (
       arith,
-      few_records c.args.t1 c.args.samples.now c.requires,
-      more_chips c.args.t1 c.args.samples.now c.requires at.i
+      few_records c.args.group c.args.samples.now c.requires,
+      more_chips c.args.group c.args.samples.now c.requires at.i
           c.loop-i-test.true at.count c.port_of.ensures c.count_records-count.ensures at.invariant,
     )
 
@@ -40,10 +40,10 @@ loop-i-smaller c = omega arith
 pub loop-i-preserved : goal.loop-i-preserved
 loop-i-preserved c =
     let at = c.loop-i in
-    more_chips c.args.t1 c.args.samples.now c.requires at.i c.loop-i-test.true at.count c.port_of.ensures
+    more_chips c.args.group c.args.samples.now c.requires at.i c.loop-i-test.true at.count c.port_of.ensures
     c.count_records-count.ensures at.invariant
 
 pub returns : goal.returns
 returns c =
     let at = c.loop-i in
-    omega (arith, at.invariant, no_chip c.args.t1 (samples_in c.args.samples.now) at.i c.requires.listed c.loop-i-test.false)
+    omega (arith, at.invariant, no_chip c.args.group (samples_in c.args.samples.now) at.i c.requires.listed c.loop-i-test.false)
