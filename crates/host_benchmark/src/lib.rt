@@ -1,4 +1,6 @@
 // What the benchmark calls: the reader from the opening on, on byte slices and numbers, since a session is no type of C's.
+#![tactic(auto)]
+
 ghost use Rattle.std.specs.Prelude.{◌≡◌};
 ghost use Rattle.base_chip.specs.declared.Part.TheVariants.{Ad9557};
 ghost use Rattle.base_chip.specs.declared.Chip.TheVariants.{Newer, Older};

@@ -1,5 +1,7 @@
 // The reader's calls as a host makes them, on any chip: a session crosses as its bytes, which the crate `bus_session_bytes` puts together
 // and takes apart.
+#![tactic(auto)]
+
 ghost use Rattle.std.specs.Prelude.{◌≡◌};
 ghost use Rattle.reg_banks.specs.Banks.{banks};
 ghost use Rattle.host_calls.specs.Calls.{host_opening, host_open_of, host_outcome, host_read_of, host_next, host_next_of};

@@ -67,7 +67,7 @@ module _ {c : Chip} {xs : List ℕ} {s₀ : Port} where
         records = k.records ∙ ap (count_of c s) next ∙ count_on c s (get_or xs i 0) (drop (i + 1) xs) z;
       }
 
-  quiet_passed : {s t : Port} {i j : ℕ} → Searching c xs s₀ s i → Quiet c xs s i t j → Searching c xs s₀ t j
+  quiet_passed : {s : Port} {i : ℕ} {t : Port} {j : ℕ} → Searching c xs s₀ s i → Quiet c xs s i t j → Searching c xs s₀ t j
   quiet_passed k still = k
   quiet_passed k (more q h e) = passed (quiet_passed k q) h (ap records_in e)
 

@@ -3,6 +3,8 @@
 //
 // One public call, `next_record`, also for the older parts and for any chip, with no `requires`; it refuses as `read` does, before
 // anything is changed.
+#![tactic(auto)]
+
 ghost use Rattle.std.specs.Prelude.{◌≡◌, true};
 ghost use Rattle.base_chip.specs.declared.Chip.TheVariants.{Newer, Older};
 ghost use Rattle.bus_session.specs.State.{sound_port};
