@@ -25,7 +25,7 @@ RULES = audit.rule_files(ROOT / 'docs/RULES.md')
 SECTIONS = audit.sections_of('# Rules\n\n## The map\n\nBytes.\n\n## Several chips\n\nAsked for by document 02, Ask 10.\n\n## Known results (a star)\n\nNone.\n')
 
 FILE = '''-- Document 01, "The map": a file for a test.
-use Rattle·other.specs.Place.{far}
+use Rattle.other.specs.Place.{far}
 
 -- one that goes on
 abbrev pub near : ℕ
@@ -68,6 +68,11 @@ class Audit(unittest.TestCase):
         known = {d.key: d for d in file.definitions} | {('other', 'Place', 'far'): None}
         self.assertEqual(list(audit.named_by(file.definitions[0].text.split('\n')[1], file, known))[-1], ('other', 'Place', 'far'))
         self.assertIn(('made', 'Test', 'near'), list(audit.named_by(file.definitions[1].text, file, known)))
+
+    def test_crates(self):
+        """the crates of a list: each by its name alone, a static library too"""
+        listed = '# ground: floor\nlow:\nwide staticlib: low\nhigh: low wide # above: all\n'
+        self.assertEqual(audit.crate_names(listed), ['low', 'wide', 'high'])
 
     def test_sections(self):
         """a section by its heading in quotes, by its request, or by the heading of the file"""
@@ -116,7 +121,7 @@ class Audit(unittest.TestCase):
             page = Path(path).read_text()
         for title in audit.all_sections(RULES):
             self.assertEqual(f'<h2>{title}</h2>' in page, title not in audit.PLAIN, title)
-        for word in ('couplingnut_read_several', 'stepOf c s x =', 'StoppedRun', '</html>'):
+        for word in ('couplingnut_read_several', 'step_of c s x =', 'StoppedRun', '</html>'):
             self.assertIn(word, page)
         self.assertNotIn('<script', page)
 

@@ -7,11 +7,13 @@ use std::path::{Path, PathBuf};
 const MOST_LINES: usize = 400;
 const MOST_IN_A_BODY: usize = 39;
 
-/// The files below a folder. What is built, and what git keeps for itself, is passed over.
+/// The files below a folder. What is built (`out` in a crate), and what git keeps for itself,
+/// is passed over.
 fn files_below(folder: &Path) -> Vec<PathBuf> {
     let entries = fs::read_dir(folder).unwrap_or_else(|e| panic!("{}: {e}", folder.display()));
     let paths = entries.map(|entry| entry.expect("an entry").path());
-    let ours = paths.filter(|path| !["target", ".git"].iter().any(|name| path.ends_with(name)));
+    let ours =
+        paths.filter(|path| !["target", "out", ".git"].iter().any(|name| path.ends_with(name)));
     ours.flat_map(|path| if path.is_dir() { files_below(&path) } else { vec![path] }).collect()
 }
 
