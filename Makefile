@@ -30,34 +30,37 @@ audit:
 # The two programs with an exit status are C over proved code, and tell the version of the file VERSION.
 COMPILE = gcc -std=c11 -O2 -Wall -Wextra -Werror -D_DEFAULT_SOURCE -DCOUPLINGNUT_VERSION='"$(shell cat VERSION)"'
 
-# Builds a proved crate's library for C, unless that was done since the crate was last proved: it proves the crate once more.
-staticlib = [ target/staticlib/lib$(1).a -nt target/stamp/$(1) ] || .ci/told rt staticlib $(1)
+# What is proved: the files of all crates, and their folders, which tell of a file that is gone. What is built of them is built anew when
+# one is newer.
+PROVED := crates.txt $(shell find crates -mindepth 2 -type d \( -name out -o -name must-fail \) -prune -o -print)
+LIBRARY = target/staticlib/libcouplingnut.a
+RECORDING = target/staticlib/libtext_recording.a
+target/staticlib/libcouplingnut.a target/staticlib/libhost_benchmark.a: target/staticlib/lib%.a: $(PROVED)
+	@.ci/made lib $* $@
+target/staticlib/libtext_recording.a: $(PROVED)
+	@.ci/made lib text_recording_c $@
+target/bin/busread: $(PROVED)
+	@.ci/made run busread $@
 
 # Proves what the programs are made of, unless that is done, and builds them. It says which crates it has proved, on standard error;
-# target/build.log has the rest.
-build:
+# target/log has the rest.
+build: target/bin/busread $(LIBRARY) $(RECORDING)
 	@mkdir -p target/host
-	@: >target/build.log
-	@[ -f target/bin/busread ] || echo "proving the programs' crates, one line each; this takes some minutes .." >&2
-	@.ci/told rt check busread couplingnut
-	@$(call staticlib,couplingnut)
-	@$(call staticlib,text_recording)
-	@$(COMPILE) -o target/host/bussend -Ihost host/bussend/*.c host/message.c target/staticlib/libcouplingnut.a
-	@$(COMPILE) -o target/host/busread host/busread.c host/message.c target/staticlib/libtext_recording.a
+	@$(COMPILE) -o target/host/bussend -Ihost host/bussend/*.c host/message.c $(LIBRARY)
+	@$(COMPILE) -o target/host/busread host/busread.c host/message.c $(RECORDING)
 
 # The library for hosts, static and shared: the proved calls, and the words for their numbers (host/message.c). Linking stops at text
-# that would have to be relocated, so that the archive's position-independence is tested too.
+# that would have to be relocated, so that the archive's position-independence is tested too. The shared library's other names are links,
+# which are made where it is installed: `rt ci` refuses a repository with links in it.
 SONAME = libcouplingnut.so.0
 SHARED = libcouplingnut.so.$(VERSION)
 library: build
 	@rm -rf target/lib && mkdir -p target/lib
-	@cp target/staticlib/libcouplingnut.a target/lib
+	@cp $(LIBRARY) target/lib
 	@gcc -std=c11 -O2 -fPIC -Wall -Wextra -Werror -c -o target/lib/words.o host/message.c
 	@ar rD target/lib/libcouplingnut.a target/lib/words.o && rm target/lib/words.o
-	@gcc -shared -Wl,-soname,$(SONAME) -Wl,-z,text,-z,defs,-z,relro,-z,now -o target/lib/$(SHARED) \
+	@gcc -shared -Wl,-soname,$(SONAME) -Wl,-z,text,-z,defs,-z,relro,-z,now -o target/lib/$(SONAME) \
 		-Wl,--whole-archive target/lib/libcouplingnut.a -Wl,--no-whole-archive
-	@ln -s $(SHARED) target/lib/$(SONAME)
-	@ln -s $(SONAME) target/lib/libcouplingnut.so
 
 # What is installed, under PREFIX. PCPREFIX is the prefix that pkg-config gives.
 INSTALLED = bin/busread bin/bussend bin/couplingnut bin/mkmap $(HEADERS:host/%=include/%) lib/libcouplingnut.a lib/$(SHARED) lib/$(SONAME) \
@@ -79,7 +82,8 @@ install: library
 	@install -d $(sort $(dir $(INSTALLED:%=$(TO)/%)))
 	@install -m 755 target/host/busread target/host/bussend tools/couplingnut tools/mkmap $(TO)/bin
 	@install -m 644 $(HEADERS) $(TO)/include
-	@install -m 644 target/lib/libcouplingnut.a target/lib/$(SHARED) $(TO)/lib
+	@install -m 644 target/lib/libcouplingnut.a $(TO)/lib
+	@install -m 644 target/lib/$(SONAME) $(TO)/lib/$(SHARED)
 	@ln -sf $(SHARED) $(TO)/lib/$(SONAME)
 	@ln -sf $(SONAME) $(TO)/lib/libcouplingnut.so
 	@sed -e 's|@PREFIX@|$(PCPREFIX)|' -e 's|@VERSION@|$(VERSION)|' host/couplingnut.pc.in >target/lib/couplingnut.pc
@@ -103,8 +107,7 @@ test:
 	@.ci/run
 
 # Times the proved side against the second implementation, and draws docs/performance.svg (docs/PERFORMANCE.md).
-bench: build
-	@.ci/told rt staticlib host_benchmark
+bench: build target/staticlib/libhost_benchmark.a
 	@cargo build --release --quiet --offline -p couplingnut-benchmark
 	@cargo run --release --quiet --offline -p couplingnut-benchmark -- measure
 
