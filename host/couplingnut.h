@@ -5,7 +5,7 @@
  * each byte written or read and for each piece broken off, and what every register then holds. The sender makes the samples of
  * one read or write run.
  *
- * The library is libcouplingnut.a (`rt staticlib couplingnut`), for x86-64 Linux. Its code is proved: for every input each call
+ * The library is libcouplingnut.a (`make library`), for x86-64 Linux. Its code is proved: for every input each call
  * ends, answers as written here, and touches no memory but what it was lent. It keeps nothing between calls, so any thread may
  * call it at any time.
  *

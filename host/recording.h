@@ -1,5 +1,5 @@
 /*
- * The bench program's reading, as busread.c calls it. The library is libtext_recording.a (`rt staticlib text_recording`); its code is proved.
+ * The bench program's reading, as busread.c calls it. The library is libtext_recording.a (`make build`); its code is proved.
  */
 #ifndef RECORDING_H
 #define RECORDING_H

@@ -84,7 +84,7 @@ pub fn assert_present() {
     }
 }
 
-const MISSING: &str = "libcouplingnut.a is missing; build it first: rt staticlib couplingnut \
+const MISSING: &str = "libcouplingnut.a is missing; build it first: make build \
                        (HOST_LIB_DIR says where)";
 
 /// What is lent to a call of the reader. Opening takes no words, samples, records or

@@ -33,7 +33,7 @@ pub enum Feed {
 /// The program, from the environment variable BUSREAD or where the build puts
 /// it. Without it no test that needs it passes.
 pub fn path() -> PathBuf {
-    found("BUSREAD", "../target/bin/busread", "rt check")
+    found("BUSREAD", "../target/bin/busread", "make build")
 }
 
 pub fn busread() -> Command {
