@@ -1,5 +1,4 @@
 -- `next_event` meets its contract: samples that give no event, and one sample by itself.
-use Prim.Native.Nat.{◌-◌}
 use mathlib.Core.Path.{refl, sym, ◌∙◌}
 use native.Mathlib.Omega.{arith}
 use Rattle.bus_session.proofs.Laws.{fit_sound}

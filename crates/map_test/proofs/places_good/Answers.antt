@@ -1,6 +1,5 @@
 -- `places_good` meets its contract: what the loop has found, with the entries that are left, is the whole run.
 use mathlib.Core.Path.{ap, ◌∙◌}
-use Prim.Native.Nat.{◌-◌}
 use native.Mathlib.Nat.{sub-zero}
 use native.Mathlib.Omega.{arith}
 use Rattle.map_format.specs.declared.Entry.{Entry}

@@ -1,7 +1,7 @@
 -- `count_ones` meets its contract: the sum so far, with the ones of the rest, is the whole.
 use native.Mathlib.Omega.{arith}
 use native.Mathlib.Numerals.{add-one}
-use Prim.Native.Nat.{ℕ, suc, ◌-◌}
+use Prim.Native.Nat.{ℕ, suc}
 use mathlib.Core.Path.{◌≡◌, refl, ap, ◌∙◌}
 use native.Mathlib.Nat.{zero-add}
 use mathlib.Core.List.{List, []}

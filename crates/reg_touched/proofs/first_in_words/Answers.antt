@@ -1,7 +1,7 @@
 -- `first_in_words` meets its contract: the words so far are 0, so that the first bit lies beyond them.
 use native.Mathlib.Omega.{arith}
 use native.Mathlib.Numerals.{add-one}
-use Prim.Native.Nat.{ℕ, suc, ◌-◌}
+use Prim.Native.Nat.{ℕ, suc}
 use mathlib.Core.Path.{◌≡◌, refl, ap}
 use mathlib.Core.List.{List, [], ◌∷◌}
 use lib.ListN.{drop, get_or, drop_of_length-le}

@@ -1,6 +1,5 @@
 -- `fill_pairs` meets its contract: the entries up to the present one are pairs.
 use mathlib.Core.Path.{sym, ◌∙◌}
-use Prim.Native.Nat.{◌-◌}
 use native.Mathlib.Omega.{arith}
 use Rattle.text_lines.proofs.Laws.{pairing_more, pairing_all}
 use Rattle.text_lines.proofs.fill_pairs.Goals as goal

@@ -1,6 +1,5 @@
 -- `left_after` meets its contract: a count falls by one, and is at least 1 before.
 use mathlib.Core.Path.{◌≡◌, refl, sym, ◌∙◌}
-use Prim.Native.Nat.{◌-◌}
 use mathlib.Core.Bool.{true, ◌&&◌}
 use lib.Dec.{leb}
 use native.Mathlib.Omega.{arith}

@@ -1,5 +1,4 @@
 -- `past_each` meets its contract: each sample passed has CSB high, and leaves its level.
-use Prim.Native.Nat.{◌-◌}
 use native.Mathlib.Omega.{arith}
 use Rattle.bus_trace.proofs.Resting.{resting_begun, resting_one, rested_all, rested_low}
 use Rattle.bus_trace.proofs.high.past_each.Goals as goal

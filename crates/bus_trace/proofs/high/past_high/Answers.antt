@@ -1,8 +1,7 @@
 -- `past_high` meets its contract: a word is passed if none of its samples has CSB low, and else up to the first that has.
-use Prim.Native.Nat.{ℕ, ◌+◌, ◌-◌, ◌<◌, ◌≤◌}
+use Prim.Native.Nat.{ℕ, ◌-◌, ◌<◌}
 use mathlib.Core.Path.{◌≡◌, sym, ◌∙◌, ap}
 use native.Mathlib.Omega.{arith}
-use lib.ListN.{length}
 use Rattle.bus_words.specs.Lanes.{highs_in, lows_in, level_in}
 use Rattle.bus_trace.proofs.Resting.{resting_begun, resting_level, resting_word, fall_inside, rested_word, rested_join}
 use Rattle.bus_trace.proofs.high.past_high.Goals as goal

@@ -1,4 +1,4 @@
-use Prim.Native.Nat.{ℕ, ◌-◌}
+use Prim.Native.Nat.{ℕ}
 use Rattle.bus_trace.specs.Scan.{progress, ProgressBounds, RisesAhead, LanesTaken}
 use Rattle.bus_trace.proofs.Lanes.{taken_bits}
 use Rattle.bus_trace.proofs.scan.bits_at.Given as goal

@@ -1,10 +1,7 @@
 -- `take` meets its contract: sixteen samples of eight bits each time, up to the last seven before the last bit; and then word by word.
-use Prim.Native.Nat.{◌+◌, ◌-◌, ◌^◌, ◌<◌, ◌≤◌}
-use mathlib.Core.Path.{◌≡◌, refl, sym, ◌∙◌}
+use Prim.Native.Nat.{◌+◌}
+use mathlib.Core.Path.{refl, sym, ◌∙◌}
 use native.Mathlib.Omega.{arith}
-use lib.ListN.{length}
-use Rattle.base_card.specs.Card.{IsCard}
-use Rattle.bus_words.specs.Lanes.{levels_in}
 use Rattle.bus_trace.specs.Scan.{progress}
 use Rattle.bus_trace.proofs.Dense.{word_nibble_lt, four_more, three_more}
 use Rattle.bus_trace.proofs.Onward.{Going, going_begun, took_join}

@@ -1,5 +1,4 @@
 -- `take_each` meets its contract: each sample changes the level, or gives a bit, or ends the scan.
-use Prim.Native.Nat.{◌-◌}
 use native.Mathlib.Omega.{arith}
 use Rattle.bus_trace.proofs.Advance.{even_level}
 use Rattle.bus_trace.proofs.Onward.{going_begun, going_idle, going_bit, took_all, took_high, took_last}

@@ -1,8 +1,7 @@
 -- `take_words` meets its contract: each word gives its bits, and the scan goes on, or ends at a rise or where CSB is high.
-use Prim.Native.Nat.{ℕ, ◌+◌, ◌-◌, ◌≤◌}
+use Prim.Native.Nat.{ℕ}
 use mathlib.Core.Path.{sym, ◌∙◌, ap}
 use native.Mathlib.Omega.{arith}
-use lib.ListN.{length}
 use Rattle.bus_words.specs.Lanes.{highs_in, lows_in, rises_in}
 use Rattle.bus_trace.proofs.Onward.{going_begun, took_join}
 use Rattle.bus_trace.proofs.Lanes.{rise_inside, took_rise, word_passed}

@@ -1,6 +1,5 @@
 -- `count_slow` meets its contract: those counted so far, with those of the records that are left, are the whole count.
 use mathlib.Core.Path.{◌∙◌, ap}
-use Prim.Native.Nat.{◌-◌}
 use native.Mathlib.Omega.{arith}
 use lib.ListN.{length-drop}
 use Rattle.base_bits.proofs.Buffer.{from_on}

@@ -1,5 +1,4 @@
 -- `put_defaults` meets its contract: the loop stores each default, and the rest is the defaults from there on.
-use Prim.Native.Nat.{◌-◌}
 use mathlib.Core.Path.{ap, ◌∙◌}
 use Rattle.reg_banks.specs.Banks.{defaults_from}
 use Rattle.reg_banks.proofs.Filling.{filling_begun, stored, ended}

@@ -1,9 +1,8 @@
 -- `transfer` meets its contract: the loop gives each byte as the transfer makes it, and the rest is the transfer from there on.
 use borrow.Author.Tests.{eq-eqb, ne_eqb}
-use Prim.Native.Nat.{ℕ, ◌-◌}
+use Prim.Native.Nat.{ℕ}
 use mathlib.Core.Path.{◌≡◌, refl, sym, ◌∙◌, ap}
 use mathlib.Core.List.{List}
-use mathlib.Core.Logic.{⊎_elim}
 use Rattle.base_bits.proofs.Cases.{yes, no}
 use Rattle.map_format.specs.Format.{register_at}
 use Rattle.reg_banks.specs.Banks.{banks, transferred}

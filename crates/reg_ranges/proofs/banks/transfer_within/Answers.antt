@@ -1,9 +1,7 @@
 -- `transfer_within` meets its contract: the loop gives each byte of the active range as a transfer makes it, and changes no other.
 use borrow.Author.Tests.{eq-eqb, ne_eqb}
 use native.Mathlib.Omega.{arith}
-use Prim.Native.Nat.{◌-◌}
 use mathlib.Core.Path.{◌≡◌, refl, sym, ◌∙◌}
-use mathlib.Core.Logic.{⊎_elim}
 use Rattle.base_bits.proofs.Cases.{yes, no}
 use Rattle.map_format.specs.Format.{register_at}
 use Rattle.reg_ranges.proofs.Moving.{moving_begun, moving_stored, moving_kept, moving_ended, buffer_byte}
