@@ -7,7 +7,7 @@ use native.Mathlib.Omega.{arith}
 use lib.Dec.{eqb, leb, ltb}
 use lib.ListN.{length, take}
 use lib.Seq.{length-take-le}
-use borrow.Author.Tests.{le-leb, lt-leb, ltb-true, ltb-false}
+use borrow.Author.Tests.{eq-eqb, le-leb, lt-leb, ltb-true, ltb-false}
 use Rattle.base_bits.specs.Tests.{unless}
 use Rattle.base_bits.proofs.Cases.{yes, no, or_left, or_right}
 use Rattle.base_chip.specs.declared.Chip.TheVariants.{Newer}
@@ -71,3 +71,20 @@ module _ (m : List ℕ) (g : Group) (size : ℕ) (bytes : List ℕ) (room : ℕ)
 
     pub after_ranges : ranges_good size (ranges_of (chips_of g)) ≡ true → (n : ℕ) → n ≡ from_sessions m g bytes room → n ≡ group_number m g size bytes room
     after_ranges r n q = after_count n (yes _ r q)
+
+    -- what is left to test after each test that holds
+    module _ (r : ranges_good size (ranges_of (chips_of g)) ≡ true) where
+      module _ (s : all_sound (chips_of g) ≡ true) where
+        pub after_sessions : (n : ℕ) → n ≡ from_map m g bytes room → n ≡ group_number m g size bytes room
+        after_sessions n q = after_ranges r n (yes _ s q)
+
+        module _ (t : map_number Newer m ≡ 0) where
+          pub after_map : (n : ℕ) → n ≡ from_lengths m g bytes room → n ≡ group_number m g size bytes room
+          after_map n q = after_sessions n (yes _ (eq-eqb (map_number Newer m) 0 t) q)
+
+          module _ (f : ranges_fit (count_of m) (chips_of g) ≡ true) where
+            pub after_lengths : (n : ℕ) → n ≡ from_samples g bytes room → n ≡ group_number m g size bytes room
+            after_lengths n q = after_map n (yes _ f q)
+
+            pub after_samples : several_samples_good g.count bytes ≡ true → (n : ℕ) → n ≡ from_room g bytes room → n ≡ group_number m g size bytes room
+            after_samples k n q = after_lengths n (yes _ k q)

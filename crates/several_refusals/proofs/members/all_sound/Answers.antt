@@ -1,5 +1,4 @@
 -- `all_sound` meets its contract: the chips passed, with the test of those that are left, are the whole test.
-use Prim.Native.Nat.{◌-◌}
 use mathlib.Core.Path.{refl}
 use native.Mathlib.Omega.{arith}
 use Rattle.several_chips.specs.Members.{sound_member}

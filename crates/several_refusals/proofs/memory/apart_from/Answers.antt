@@ -1,5 +1,4 @@
 -- `apart_from` meets its contract: the ranges passed, with the test of those that are left, are the whole test.
-use Prim.Native.Nat.{◌-◌}
 use mathlib.Core.Path.{refl}
 use native.Mathlib.Omega.{arith}
 use Rattle.several_chips.specs.Numbers.{ranges_of}

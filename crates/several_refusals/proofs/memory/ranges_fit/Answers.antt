@@ -1,5 +1,4 @@
 -- `ranges_fit` meets its contract: the chips passed, with the test of those that are left, are the whole test.
-use Prim.Native.Nat.{◌-◌}
 use mathlib.Core.Path.{refl}
 use mathlib.Core.Bool.{◌&&◌}
 use native.Mathlib.Omega.{arith}

@@ -1,5 +1,4 @@
 -- `count_all` meets its contract: the records counted, with those of the chips that are left, are the whole.
-use Prim.Native.Nat.{◌-◌}
 use native.Mathlib.Omega.{arith}
 use Rattle.several_chips.specs.Samples.{samples_in}
 use Rattle.several_refusals.proofs.Counting.{few_records, next_asked, more_chips, no_chip}

@@ -1,5 +1,4 @@
 -- `count_records` meets its contract: the records counted, with those that the samples left give, are the whole.
-use Prim.Native.Nat.{◌-◌}
 use native.Mathlib.Omega.{arith}
 use Rattle.base_chip.specs.declared.Chip.TheVariants.{Newer}
 use Rattle.bus_session.proofs.Laws.{fit_sound}

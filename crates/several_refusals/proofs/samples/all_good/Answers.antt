@@ -1,5 +1,4 @@
 -- `all_good` meets its contract: the samples passed, with the test of those that are left, are the whole test.
-use Prim.Native.Nat.{◌-◌}
 use mathlib.Core.Path.{refl}
 use native.Mathlib.Omega.{arith}
 use Rattle.several_refusals.proofs.SampleBytes.{good_more, samples_passed}
