@@ -9,7 +9,7 @@ use lib.Seq.{drop-cons, drop-length, take-length, take-suc}
 use Rattle.several_chips.specs.declared.Member.{Member}
 use Rattle.several_chips.specs.Promises.{AllBytes}
 use Rattle.several_refusals.specs.declared.group.Group.{Group}
-use Rattle.several_refusals.specs.Group.{absent, no_group, with_member, gathered}
+use Rattle.several_refusals.specs.Group.{no_group, with_member, gathered}
 
 -- one chip more whose session holds bytes
 bytes_more : (ws : List Member) (w : Member) → AllBytes ws → ((k : ℕ) → get_or w.session k 0 < 256) → AllBytes (ws ++ (w ∷ []))
@@ -25,13 +25,13 @@ pub record Reached (ws : List Member) (i : ℕ) (g : Group) : Type 0 where
 pub gathering_begun : (ws : List Member) → Reached ws 0 no_group
 gathering_begun ws = record { inside = omega arith; so_far = refl; bytes = tt }
 
-pub turned : {ws : List Member} {i : ℕ} {g : Group} → Reached ws i g → i < length ws → (h : Group) → h ≡ with_member g (get_or ws i absent)
-    → ((k : ℕ) → get_or (get_or ws i absent).session k 0 < 256) → Reached ws (i + 1) h
+pub turned : {ws : List Member} {i : ℕ} {g : Group} → Reached ws i g → i < length ws → (d : Member) (h : Group) → h ≡ with_member g (get_or ws i d)
+    → ((k : ℕ) → get_or (get_or ws i d).session k 0 < 256) → Reached ws (i + 1) h
 unfolding gathered
-turned {ws} {i} {g} r less h e small = record {
+turned {ws} {i} {g} r less d h e small = record {
   inside = omega arith;
-  so_far = ap₂ gathered e (ap (λ (k : ℕ). drop k ws) (add-one i)) ∙ sym (ap (gathered g) (drop-cons ws i absent less)) ∙ r.so_far;
-  bytes = subst AllBytes (sym (ap (λ (k : ℕ). take k ws) (add-one i) ∙ take-suc ws i absent less)) (bytes_more (take i ws) (get_or ws i absent) r.bytes small);
+  so_far = ap₂ gathered e (ap (λ (k : ℕ). drop k ws) (add-one i)) ∙ sym (ap (gathered g) (drop-cons ws i d less)) ∙ r.so_far;
+  bytes = subst AllBytes (sym (ap (λ (k : ℕ). take k ws) (add-one i) ∙ take-suc ws i d less)) (bytes_more (take i ws) (get_or ws i d) r.bytes small);
 }
 
 pub ended : {ws : List Member} {i : ℕ} {g : Group} → Reached ws i g → length ws ≤ i → (g ≡ gathered no_group ws) × AllBytes ws

@@ -1,4 +1,3 @@
-pub mod Again
 mod Gathering
 mod Resume
 mod Turns

@@ -1,4 +1,6 @@
 // The loop over the lent list of chips: a turn for each chip at each sample, on the list itself.
+#![tactic(auto)]
+
 mod copies;
 
 ghost use Rattle.std.specs.Prelude.{◌≡◌, ◌/◌, cond, eqb, length};
