@@ -1,5 +1,5 @@
 -- `open_on` meets its contract: done, each default stands in both banks; refused, the banks are as they were.
-use mathlib.Core.Path.{refl, sym, ◌∙◌}
+use mathlib.Core.Path.{sym, ◌∙◌}
 use Rattle.read_refusals.proofs.Laws.{opens, fits_mapped}
 use Rattle.read_calls.proofs.Laws.{open_refused, open_done}
 use Rattle.read_calls.proofs.open_on.Goals as goal

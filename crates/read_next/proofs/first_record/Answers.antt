@@ -1,5 +1,4 @@
 -- `first_record` meets its contract: the samples passed give no record, until one does.
-use Prim.Native.Nat.{◌-◌}
 use mathlib.Core.Path.{sym, ◌∙◌}
 use native.Mathlib.Omega.{arith}
 use Rattle.read_next.proofs.Search.{search_begun, search_on, found, none_found}

@@ -1,12 +1,7 @@
 -- `read_refusal` meets its contract: the tests in the order of their numbers.
-use mathlib.Core.Path.{◌≡◌, sym, ◌∙◌}
-use mathlib.Core.Bool.{true}
+use mathlib.Core.Path.{sym, ◌∙◌}
 use native.Mathlib.Omega.{arith}
-use borrow.Author.Tests.{not-false}
 use Rattle.map_test.proofs.Laws.{good_count}
-use Rattle.bus_session.specs.State.{sound_session}
-use Rattle.reg_banks.specs.Banks.{banks}
-use Rattle.read_refusals.specs.Numbers.{open_number, words_fit}
 use Rattle.read_refusals.proofs.Laws.{unsound, not_opened, other_words, too_many, one_bad, room_found, room_short}
 use Rattle.read_refusals.proofs.read_refusal.Goals as goal
 

@@ -1,15 +1,11 @@
 -- `run_samples` meets its contract: what is passed, with what the samples left will give, is the whole. Each turn goes to a stop, and the
 -- sample there has a law of its own.
-use mathlib.Core.Path.{◌≡◌, refl, sym, ◌∙◌, ap}
+use mathlib.Core.Path.{refl, sym, ◌∙◌, ap}
 use mathlib.Core.Bool.{Bool, ◌&&◌}
-use mathlib.Core.List.{List}
-use Prim.Native.Nat.{ℕ, ◌+◌}
 use lib.Dec.{eqb}
-use lib.ListN.{length}
 use native.Mathlib.Omega.{arith}
 use Rattle.base_card.proofs.Entries.{is_card}
 use Rattle.bus_session.specs.State.{is_counted}
-use Rattle.read_records.specs.declared.EventOutcome.{EventOutcome}
 use Rattle.read_run.specs.declared.events.Pass.{Pass}
 use Rattle.read_run.specs.declared.scanning.ScanPort.{ScanPort}
 use Rattle.read_run.specs.Promises.{run_end}

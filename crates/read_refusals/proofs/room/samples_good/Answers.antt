@@ -1,5 +1,4 @@
 -- `samples_good` meets its contract: the test of the bits so far, with that of the samples that are left, is the whole test.
-use Prim.Native.Nat.{◌-◌}
 use mathlib.Core.Path.{refl}
 use native.Mathlib.Omega.{arith}
 use Rattle.read_refusals.proofs.Scan.{good_more, good_all}
