@@ -10,7 +10,6 @@ use Rattle.base_chip.specs.declared.Chip.{Chip}
 use Rattle.base_chip.specs.declared.Chip.TheVariants.{Newer, Older}
 use Rattle.base_chip.specs.Chip.{is_newer}
 use Rattle.bus_settings.specs.declared.Settings.{Settings}
-use Rattle.bus_session.specs.declared.Phase.{Phase}
 use Rattle.bus_session.specs.declared.Phase.TheVariants.{Rest}
 use Rattle.bus_session.specs.declared.Port.{Port}
 use Rattle.bus_session.specs.declared.Session.{Session}

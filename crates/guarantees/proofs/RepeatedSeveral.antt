@@ -18,7 +18,6 @@ use Rattle.bus_session.specs.State.{sound_session}
 use Rattle.bus_session.specs.Step.{csb_of, sclk_of, takes_bit, step_of}
 use Rattle.bus_session.specs.Event.{event_of}
 use Rattle.bus_session_bytes.specs.Layout.{are_session, session_of}
-use Rattle.reg_banks.specs.Banks.{banks}
 use Rattle.read_records.specs.Records.{record_of}
 use Rattle.read_records.specs.BanksAfter.{banks_after, armed_after}
 use Rattle.several_chips.specs.declared.Member.{Member}

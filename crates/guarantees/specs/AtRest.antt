@@ -3,7 +3,6 @@ use Rattle.std.specs.Prelude.{ℕ, ◌≡◌, true, List}
 use Rattle.std.proofs.Math.Pow.{are_bytes}
 use Rattle.base_chip.specs.declared.Chip.{Chip}
 use Rattle.map_test.specs.MapTest.{map_number, top_fits}
-use Rattle.bus_settings.specs.declared.Settings.{Settings}
 use Rattle.bus_settings.specs.declared.InUse.{InUse}
 use Rattle.bus_settings.specs.Settings.{in_use_of, counting}
 use Rattle.bus_session.specs.declared.Phase.TheVariants.{Rest}

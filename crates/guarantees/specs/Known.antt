@@ -1,5 +1,5 @@
 -- Document 01, "Known results": every starred line, as one table.
-use Rattle.std.specs.Prelude.{ℕ, zero, suc, ◌+◌, ◌*◌, ◌≡◌, Bool, true, false, List, [], ◌∷◌, ◌++◌, length, replicate, get_or, take, drop}
+use Rattle.std.specs.Prelude.{ℕ, zero, suc, ◌*◌, ◌≡◌, Bool, true, false, List, [], ◌∷◌, ◌++◌, length, replicate, get_or, take, drop}
 use Rattle.base_bits.specs.Bits.{merged}
 use Rattle.base_numbers.specs.Numbers.{bad_samples}
 use Rattle.base_chip.specs.declared.Chip.TheVariants.{Newer}
