@@ -1,21 +1,16 @@
 -- The map of 8,192 registers is good: its first sixteen entries compute, and a blank one is good at any place from 0x0010 on.
 use mathlib.Core.Path.{◌≡◌, refl, sym}
-use mathlib.Core.Bool.{Bool, true, false, cond, ◌&&◌}
+use mathlib.Core.Bool.{Bool, true, false, cond}
 use mathlib.Core.List.{List, [], ◌∷◌, ◌++◌}
 use Prim.Native.Nat.{ℕ, zero, suc, ◌+◌, ◌-◌, ◌*◌, ◌≤◌}
 use native.Mathlib.Omega.{arith}
 use lib.ListN.{length, get_or, replicate}
 use lib.Dec.{ltb}
 use Rattle.base_bits.specs.Bytes.{byte_at}
-use Rattle.base_bits.specs.Tests.{every}
-use Rattle.base_bits.proofs.Cases.{yes}
-use Rattle.base_chip.specs.declared.Chip.TheVariants.{Newer}
 use Rattle.map_format.specs.declared.Entry.{Entry}
 use Rattle.map_format.specs.Format.{entry_start, count_of, head_of, entry_at, register_at}
 use Rattle.map_format.proofs.Laws.{head_bounds}
-use Rattle.map_test.specs.MapTest.{form_tests, kind_rule, place_kinds, place_rule, entry_good, entries_good, further_tests, map_number}
-use Rattle.map_test.proofs.Entries.{two_parts}
-use Rattle.map_test.proofs.Laws.{formed}
+use Rattle.map_test.specs.MapTest.{kind_rule, place_kinds, place_rule, entry_good, entries_good}
 use Rattle.guarantees.specs.Known.{entries16, map8192}
 
 repeated : (n i z : ℕ) → get_or (replicate n z) i z ≡ z
@@ -56,25 +51,10 @@ module _ (xs : List ℕ) (n : ℕ) (head : length xs ≡ 53) where
   good_from_16 zero a h = refl
   good_from_16 (suc k) a h = rw (blank_from_16 a h, good_from_16 k (a + 1) (omega arith))
 
-first_sixteen_good : true ≡ entries_good place_kinds map8192 0 16
+pub first_sixteen_good : true ≡ entries_good place_kinds map8192 0 16
 unfolding count_of head_of entry_at kind_rule place_rule entry_good entries_good
 first_sixteen_good = refl
 
-others_good : true ≡ entries_good [] map8192 16 (count_of map8192 - 16)
+pub others_good : true ≡ entries_good [] map8192 16 (count_of map8192 - 16)
 unfolding count_of
 others_good = sym (good_from_16 (0x60 ∷ 0x03 ∷ 1 ∷ 0x20 ∷ 0x00 ∷ entries16) (3 * 8176) refl 8176 16 (omega arith))
-
-form_good : every (form_tests map8192) ≡ true
-unfolding every count_of head_of
-form_good = refl
-
-further_good : true ≡ every (further_tests Newer map8192)
-unfolding every count_of head_of entry_at
-further_good = refl
-
-pub good_8192 : map_number Newer map8192 ≡ 0
-unfolding map_number
-good_8192 =
-    let entries = two_parts place_kinds map8192 true true (formed map8192 form_good) (omega arith) first_sixteen_good others_good in
-    let rules : (entries_good place_kinds map8192 0 (count_of map8192) && every (further_tests Newer map8192)) ≡ true = rw (← entries, ← further_good) in
-    sym (yes _ form_good (yes _ rules refl))

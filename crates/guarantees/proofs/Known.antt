@@ -31,7 +31,7 @@ use Rattle.send_order.specs.Number.{configures_early, send_number}
 use Rattle.send_order.specs.Samples.{high_first, low_first, bits_of, byte_bits, run_bits, order_bits, clocked, samples_of, all_samples}
 use Rattle.send_order.proofs.Laws.{length_samples}
 use Rattle.guarantees.specs.Known.{KnownResults, write_thousand}
-use Rattle.guarantees.proofs.Blank.{good_8192}
+use Rattle.guarantees.proofs.GoodMap.{good_8192}
 
 -- the length and the bytes of a good map of n registers in a version
 lengths_of :

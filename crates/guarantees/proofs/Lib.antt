@@ -10,6 +10,7 @@ pub mod Ending
 pub mod Events
 pub mod Fit
 pub mod Goes
+pub mod GoodMap
 pub mod InForce
 pub mod Known
 pub mod KnownOlder
