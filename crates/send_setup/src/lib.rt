@@ -125,7 +125,8 @@ fn setup_number(settings: u64, list: &[u8], room: usize) -> u8
     if looked.number != DONE {
         return looked.number;
     }
-    if MOST_SAMPLES < looked.total {
+    let long = MOST_SAMPLES < looked.total;
+    if long {
         return LONG_SETUP;
     }
     if room < looked.total {

@@ -6,16 +6,16 @@ pub returns-then-looked-ne-DONE : goal.returns-then-looked-ne-DONE
 returns-then-looked-ne-DONE c =
     number_first c.args.settings c.args.list.now c.args.room _ _ c.look_over-looked.ensures c.if-looked-ne-DONE.true
 
-pub returns-then-looked-gt-MOST_SAMPLES : goal.returns-then-looked-gt-MOST_SAMPLES
-returns-then-looked-gt-MOST_SAMPLES c =
-    number_15 c.args.settings c.args.list.now c.args.room _ _ c.look_over-looked.ensures c.if-looked-ne-DONE.false c.if-looked-gt-MOST_SAMPLES.true
+pub returns-then-long : goal.returns-then-long
+returns-then-long c =
+    number_15 c.args.settings c.args.list.now c.args.room _ _ c.look_over-looked.ensures c.if-looked-ne-DONE.false c.if-long.true
 
 pub returns-then-room-looked : goal.returns-then-room-looked
 returns-then-room-looked c =
     number_11 c.args.settings c.args.list.now c.args.room _ _ c.look_over-looked.ensures c.if-looked-ne-DONE.false
-    c.if-looked-gt-MOST_SAMPLES.false c.if-room-looked.true
+    c.if-long.false c.if-room-looked.true
 
 pub returns : goal.returns
 returns c =
     number_0 c.args.settings c.args.list.now c.args.room _ _ c.look_over-looked.ensures c.if-looked-ne-DONE.false
-    c.if-looked-gt-MOST_SAMPLES.false c.if-room-looked.false
+    c.if-long.false c.if-room-looked.false
