@@ -1,4 +1,6 @@
 // The text that the bench program prints.
+#![tactic(auto)]
+
 ghost use Rattle.std.specs.Prelude.{◌≡◌, ◌∷◌, [], ◌++◌, ◌+◌, ◌≤◌, min, length};
 ghost use Rattle.text_lines.specs.Pairs.{Paired};
 ghost use Rattle.text_report.specs.Numbers.{decimal_of};
