@@ -7,7 +7,7 @@ use Rattle.text_recording.specs.Sizes.{least_length, most_length}
 -- at most so many bytes came
 abbrev pub FilledWithin : Filled → ℕ → Type 0
 FilledWithin (Bytes got) most = got ≤ most
-FilledWithin Failed most = Unit {0}
+FilledWithin (Failed reason) most = Unit {0}
 
 -- Document 01, "The map", and document 02, Ask 3: where a map with this length field ends. The field is 3 + 3n or 4 + 3n, which
 -- never meet. For one that no map has nothing is taken but the field itself.

@@ -8,25 +8,25 @@ use Rattle.text_recording.specs.declared.End.TheVariants.{Done, Refused, MapFail
 abbrev pub Known : End → Type 0
 Known Done = Unit {0}
 Known (Refused number) = (0 < number) × (number ≤ 5)
-Known MapFailed = Unit {0}
-Known SamplesFailed = Unit {0}
-Known OutputFailed = Unit {0}
+Known (MapFailed reason) = Unit {0}
+Known (SamplesFailed reason) = Unit {0}
+Known (OutputFailed reason) = Unit {0}
 
 -- what a host is told: how the reading ended
 abbrev pub code_of : End → ℕ
 code_of Done = 0
 code_of (Refused number) = 1
-code_of MapFailed = 2
-code_of SamplesFailed = 3
-code_of OutputFailed = 4
+code_of (MapFailed reason) = 2
+code_of (SamplesFailed reason) = 3
+code_of (OutputFailed reason) = 4
 
 -- and the number of a refusal, else 0
 abbrev pub number_of : End → ℕ
 number_of Done = 0
 number_of (Refused number) = number
-number_of MapFailed = 0
-number_of SamplesFailed = 0
-number_of OutputFailed = 0
+number_of (MapFailed reason) = 0
+number_of (SamplesFailed reason) = 0
+number_of (OutputFailed reason) = 0
 
 -- Both are told of one end.
 pub record Told (code number : ℕ) : Type 0 where

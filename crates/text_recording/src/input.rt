@@ -1,9 +1,10 @@
-// What comes from an open file: the map, and pieces of the samples.
+// What comes from a file: the map, and pieces of the samples.
 ghost use Rattle.std.specs.Prelude.{◌≡◌, ◌+◌, ◌*◌, ◌≤◌, length};
 ghost use Rattle.text_recording.specs.Sizes.{map_space};
 ghost use Rattle.text_recording.specs.Bounds.{FilledWithin, map_end};
 
 use map_format::{LEAST_SIZE, LENGTH_SIZE, MOST_SIZE};
+use std::io::{Error, Read};
 
 // The least and the most that a map's length field says.
 const LEAST_LENGTH: usize = LEAST_SIZE - LENGTH_SIZE;
@@ -13,30 +14,25 @@ const MOST_LENGTH: usize = MOST_SIZE - LENGTH_SIZE;
 // The bytes for the largest map, and one more by which a file is seen to be longer than its map.
 pub const MAP_SPACE: usize = MOST_SIZE + 1;
 
-// What came of filling a buffer: so many bytes, fewer than were asked for where the file has ended; or the file failed.
+// What came of filling a buffer: so many bytes, fewer than were asked for where the file has ended; or the file failed, and why.
 #[derive(Clone, Copy)]
 pub enum Filled {
     Bytes(usize),
-    Failed,
+    Failed(Error),
 }
 
 // Fills a buffer from a file up to an end, in as many portions as it takes; how many bytes it then has.
-pub fn fill(file: i32, space: &mut [u8], from: usize, end: usize) -> Filled
+pub fn fill<R: Read>(file: &mut R, space: &mut [u8], from: usize, end: usize) -> Filled
     requires { (from ≤ end) × (end ≤ length space.old) }
     ensures { FilledWithin result end }
 {
     let mut at = from;
     while at < end {
-        let part = &mut space[at..end];
-        let got = libc::read(file, part);
-        if got < 0 {
-            return Filled::Failed;
+        match file.read(&mut space[at..end]) {
+            Ok(0) => return Filled::Bytes(at),
+            Ok(more) => at += more,
+            Err(reason) => return Filled::Failed(reason),
         }
-        let more = io::count(got, part);
-        if more == 0 {
-            return Filled::Bytes(at);
-        }
-        at += more;
     }
     Filled::Bytes(at)
 }
@@ -54,7 +50,7 @@ fn map_end(high: u8, low: u8) -> usize
 
 // Takes the map from a file: its length field, and what that announces. Of a file that is the map's own a byte more is taken, if
 // there is one: the map test then refuses what is longer than its map.
-pub fn read_map(file: i32, own: bool, map: &mut [u8]) -> Filled
+pub fn read_map<R: Read>(file: &mut R, own: bool, map: &mut [u8]) -> Filled
     requires { map_space ≤ length map.old }
     ensures { FilledWithin result map_space }
 {
