@@ -43,7 +43,7 @@ few_taken {got} l h few = rw (length-take-le got l h) few
 -- a larger bound holds too
 pub within_more : (f : Filled) {some most : ℕ} → some ≤ most → FilledWithin f some → FilledWithin f most
 within_more (Bytes got) h w = omega arith
-within_more Failed h w = tt
+within_more (Failed reason) h w = tt
 
 -- a map ends after its length field, and there is room for a byte more
 pub map_end_bounds : (length : ℕ) {end : ℕ} → end ≡ map_end length → (2 ≤ end) × (end < map_space)
