@@ -2,7 +2,7 @@
  * busread: what passed on the bus, line by line, from a register map and the samples of a recording.
  *
  * Exit status: 0 done; 1 the map or a sample was refused; 2 the command line is wrong; 3 input or output failed. Standard error
- * says which. The reading itself is proved code (crates/text_recording); here are the command line, the files and the words alone.
+ * says which. The reading itself is proved code (crates/text_recording_c); here are the command line, the files and the words alone.
  * COUPLINGNUT_VERSION comes from the build.
  */
 #include "couplingnut.h"
@@ -12,6 +12,7 @@
 #include <fcntl.h>
 #include <inttypes.h>
 #include <signal.h>
+#include <stdbool.h>
 #include <stdio.h>
 #include <string.h>
 #include <unistd.h>
@@ -27,8 +28,7 @@ static const char usage[] = "usage: busread [--part PART] [MAP [SAMPLES]]\n"
 static const char standard_input[] = "standard input";
 
 /* A reading of recording.h. */
-typedef uint32_t reading_call(int32_t map_file, int32_t samples_file, int32_t to, uint64_t *number, uint64_t *samples,
-                              uint64_t *fell, uint64_t *rose);
+typedef uint32_t reading_call(const uint8_t *map, size_t size, uint64_t *number, uint64_t *samples, uint64_t *fell, uint64_t *rose);
 
 /* The parts that --part can name. */
 static const struct {
@@ -103,23 +103,46 @@ static int say_dead(const struct told *told)
     return DONE;
 }
 
-/* Reads the recording of two open files, or of one. */
-static int read_recording(reading_call *call, const struct source *map, const struct source *samples)
+/* Puts an open file in the place of standard input, which the proved code reads. */
+static bool stand_in(int file)
+{
+    return file == STDIN_FILENO || dup2(file, STDIN_FILENO) == STDIN_FILENO;
+}
+
+/* Reads the samples on a map that was taken. */
+static int read_samples(reading_call *call, const uint8_t *bytes, size_t size, const char *map, const char *samples)
 {
     struct told told;
 
-    switch (call(map->file, samples->file, STDOUT_FILENO, &told.number, &told.samples, &told.fell, &told.rose)) {
+    switch (call(bytes, size, &told.number, &told.samples, &told.fell, &told.rose)) {
     case RECORDING_DONE:
         return say_dead(&told);
     case RECORDING_REFUSED:
         return say_refused(&told);
     case RECORDING_MAP_FAILED:
-        return failed(map->name);
+        return failed(map);
     case RECORDING_SAMPLES_FAILED:
-        return failed(samples->name);
+        return failed(samples);
     default:
         return failed("standard output");
     }
+}
+
+/* Reads the recording of two open files, or of one. While the map's file stands in, a samples' file that is standard input is kept. */
+static int read_recording(reading_call *call, const struct source *map, const struct source *samples)
+{
+    static uint8_t bytes[RECORDING_MAP_SPACE];
+    bool own = map->file != samples->file;
+    int file = samples->file;
+    uint64_t size;
+
+    if (own && file == STDIN_FILENO) {
+        file = dup(file);
+    }
+    if (!stand_in(map->file) || couplingnut_read_map(own, bytes, &size) != RECORDING_DONE) {
+        return failed(map->name);
+    }
+    return stand_in(file) ? read_samples(call, bytes, (size_t)size, map->name, samples->name) : failed(samples->name);
 }
 
 /* Says what is wrong with the command line. */
