@@ -136,8 +136,8 @@ static int read_recording(reading_call *call, const struct source *map, const st
     int file = samples->file;
     uint64_t size;
 
-    if (own && file == STDIN_FILENO) {
-        file = dup(file);
+    if (own && file == STDIN_FILENO && (file = dup(file)) < 0) {
+        return failed(samples->name);
     }
     if (!stand_in(map->file) || couplingnut_read_map(own, bytes, &size) != RECORDING_DONE) {
         return failed(map->name);
