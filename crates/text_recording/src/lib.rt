@@ -199,7 +199,8 @@ fn read_opened<S: Read, W: Write>(
     let chip = chip_of(family, map);
     let opened = read_calls::open_on(chip, map, active, buffer);
     let refused = opened.number;
-    if refused != 0 {
+    let refuses = refused != 0;
+    if refuses {
         return unread(refuse(to, refused));
     }
     if let Err(reason) = output::write_map_line(to, map_format::count(map)) {

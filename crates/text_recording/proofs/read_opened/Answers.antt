@@ -6,9 +6,9 @@ use Rattle.text_recording.proofs.Laws.{top_of_map, words_of_map, open_told}
 use Rattle.text_recording.proofs.read_opened.Goals as goal
 
 pub refuse-requires : goal.refuse-requires
-refuse-requires g c = (omega (arith, c.if-refused-ne0.true), open_told _ _ c.chip_of-chip.ensures _ c.open_on-opened.ensures)
+refuse-requires g c = (omega (arith, c.if-refuses.true), open_told _ _ c.chip_of-chip.ensures _ c.open_on-opened.ensures)
 
 pub read_trace-requires : goal.read_trace-requires
 read_trace-requires g c =
-    let good = opened_good _ _ _ c.open_on-opened.ensures c.if-refused-ne0.false in
+    let good = opened_good _ _ _ c.open_on-opened.ensures c.if-refuses.false in
     (good, top_of_map _ _ c.chip_of-chip.ensures good, words_of_map _ _ c.args.words.now good c.requires)
