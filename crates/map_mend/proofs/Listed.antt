@@ -4,7 +4,6 @@ use mathlib.Core.Bool.{true, false, not}
 use mathlib.Core.List.{List, [], ◌++◌}
 use Prim.Native.Nat.{ℕ, zero, suc, ◌+◌, ◌-◌, ◌*◌, ◌≤◌, ◌<◌}
 use native.Mathlib.Omega.{arith}
-use native.Mathlib.Nat.{zero-add}
 use lib.ListN.{length, length-append}
 use borrow.Author.Tests.{not-true, not-false}
 use Rattle.base_bits.specs.Bytes.{word_bytes}
@@ -47,9 +46,6 @@ none_left m n a h = let e : n - a ≡ 0 = omega arith in rw e
 pub record ListCounting (m : List ℕ) (n counted a : ℕ) : Type 0 where
   pub within : a ≤ n
   pub so_far : counted + length (altered_from m a (n - a)) ≡ length (altered_from m 0 n)
-
-pub list_counting_begun : (m : List ℕ) (n : ℕ) → ListCounting m n 0 0
-list_counting_begun m n = let e : n - 0 ≡ n = omega arith in record { within = omega arith; so_far = rw e (zero-add (length (altered_from m 0 n))) }
 
 module _ (m : List ℕ) (n counted a : ℕ) (c : ListCounting m n counted a) where
   pub again : (size : ℕ) → size ≡ length (altered_at a (register_at m a)) → a < n → ListCounting m n (counted + size) (a + 1)

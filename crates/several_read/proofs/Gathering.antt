@@ -1,5 +1,5 @@
 -- How far the copying of a list has come: what a turn of its loop keeps, as facts about lists.
-use mathlib.Core.Path.{◌≡◌, refl, sym, ap, ap₂, ◌∙◌, subst}
+use mathlib.Core.Path.{◌≡◌, sym, ap, ap₂, ◌∙◌, subst}
 use mathlib.Core.List.{List, [], ◌∷◌, ◌++◌}
 use Prim.Native.Nat.{ℕ, ◌+◌, ◌<◌, ◌≤◌}
 use native.Mathlib.Omega.{arith}
@@ -21,9 +21,6 @@ pub record Reached (ws : List Member) (i : ℕ) (g : Group) : Type 0 where
   pub inside : i ≤ length ws
   pub so_far : gathered g (drop i ws) ≡ gathered no_group ws
   pub bytes : AllBytes (take i ws)
-
-pub gathering_begun : (ws : List Member) → Reached ws 0 no_group
-gathering_begun ws = record { inside = omega arith; so_far = refl; bytes = tt }
 
 pub turned : {ws : List Member} {i : ℕ} {g : Group} → Reached ws i g → i < length ws → (d : Member) (h : Group) → h ≡ with_member g (get_or ws i d)
     → ((k : ℕ) → get_or (get_or ws i d).session k 0 < 256) → Reached ws (i + 1) h

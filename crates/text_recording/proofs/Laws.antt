@@ -30,7 +30,7 @@ use Rattle.text_recording.specs.declared.input.Filled.TheVariants.{Bytes, Failed
 use Rattle.text_recording.specs.Sizes.{least_length, most_length, map_space, piece, record_space, text_space}
 use Rattle.text_recording.specs.Bounds.{FilledWithin, map_end}
 use Rattle.text_recording.specs.Families.{chip_of}
-use Rattle.text_recording.specs.Tally.{nothing_read, counted_of, Room}
+use Rattle.text_recording.specs.Tally.{nothing_read, counted_of}
 
 -- the bytes that came
 pub within_bytes : {f : Filled} {got most : ℕ} → f ≡ Bytes got → FilledWithin f most → got ≤ most
@@ -126,13 +126,6 @@ module _ (t : Tally) (samples : List ℕ) {got : ℕ} (within : got ≤ length s
 
   -- its records
   module _ (k : Counts t) (records : List ℕ) {size : ℕ} (few_bytes : size ≤ record_space) (in_Buffer : size ≤ length records) where
-    pub countable : t.samples < 0xFFFF_FFFF_FFFF_FFFF - piece → got ≤ piece → Room t (take got samples) (take size records)
-    countable h few = record {
-      more_records = rw (length-take-le size records in_Buffer) (omega (arith, k.few_records));
-      more_samples = samples_countable h few;
-      more_slow = rw (length-take-le size records in_Buffer) (omega (arith, k.few_records, k.few_slow));
-    }
-
     -- 4,096 samples leave 1,366 records at most
     pub counts_more : {next : Tally} → next ≡ counted_of t (take got samples) (take size records) → piece ≤ got → Counts next
     unfolding counted_of
