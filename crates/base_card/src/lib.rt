@@ -4,41 +4,42 @@
 ghost use Rattle.std.specs.Prelude.{◌≡◌, cond};
 ghost use Rattle.base_card.specs.Card.{turned, IsCard, is_mirror};
 
-// The card: the nibbles 0 to F in order, the bits of each the other way round.
-pub const CARD: [u8; 16] = [
-    0x0, 0x8, 0x4, 0xC, 0x2, 0xA, 0x6, 0xE, 0x1, 0x9, 0x5, 0xD, 0x3, 0xB, 0x7, 0xF,
-];
-
-// A byte, its bits the other way round: each nibble as the card has it, and the two exchanged. The card is lent: a const that is used
-// is built anew each time, and who turns many bytes builds it once.
-pub fn turn_by(card: &[u8; 16], byte: u8) -> u8
-    requires { IsCard card.now }
-    ensures { result ≡ turned 8 byte }
-{
-    let low = (byte % 16) as usize;
-    let high = (byte / 16) as usize;
-    card[low] * 16 + card[high]
+// The card: the nibbles 0 to F in order, the bits of each the other way round. Who turns many bytes makes one card and lends it.
+#[derive(Clone, Copy)]
+pub struct Card {
+    nibbles: [u8; 16],
+    ghost mirrored: { IsCard nibbles },
 }
 
-// The same of one byte.
-fn turn(byte: u8) -> u8
-    ensures { result ≡ turned 8 byte }
-{
-    let card = CARD;
-    turn_by(&card, byte)
-}
+impl Card {
+    pub fn new() -> Card {
+        Card {
+            nibbles: [
+                0x0, 0x8, 0x4, 0xC, 0x2, 0xA, 0x6, 0xE, 0x1, 0x9, 0x5, 0xD, 0x3, 0xB, 0x7, 0xF,
+            ],
+        }
+    }
 
-// A byte in the order in which its bits travel: turned where the lowest goes first. The same takes it back.
-pub fn in_order(card: &[u8; 16], lsb_first: bool, byte: u8) -> u8
-    requires { IsCard card.now }
-    ensures { result ≡ cond lsb_first (turned 8 byte) byte }
-{
-    if lsb_first { turn_by(card, byte) } else { byte }
+    // A byte, its bits the other way round: each nibble as the card has it, and the two exchanged.
+    pub fn turn(&self, byte: u8) -> u8
+        ensures { result ≡ turned 8 byte }
+    {
+        let low = (byte % 16) as usize;
+        let high = (byte / 16) as usize;
+        self.nibbles[low] * 16 + self.nibbles[high]
+    }
+
+    // A byte in the order in which its bits travel: turned where the lowest goes first. The same takes it back.
+    pub fn in_order(&self, lsb_first: bool, byte: u8) -> u8
+        ensures { result ≡ cond lsb_first (turned 8 byte) byte }
+    {
+        if lsb_first { self.turn(byte) } else { byte }
+    }
 }
 
 // Whether a byte reads the same from both ends.
 pub fn is_mirror(byte: u8) -> bool
     ensures { result ≡ is_mirror byte }
 {
-    turn(byte) == byte
+    Card::new().turn(byte) == byte
 }

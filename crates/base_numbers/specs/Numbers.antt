@@ -1,6 +1,8 @@
 -- Document 01, "Numbers given back": the number of each refusal, under the name that it has in C. In which order they come is said by the
 -- chain of each call.
-use Rattle.std.specs.Prelude.{ℕ}
+use Rattle.std.specs.Prelude.{ℕ, Result, Ok, Err}
+use Rattle.base_numbers.specs.declared.Refusal.{Refusal}
+use Rattle.base_numbers.specs.declared.Refusal.TheVariants.{BadSession, BadMapForm, BadMapEntry, BadBank, BadSamples, ShortRecords, BadOrder, BadCount, BadStart, BadSingle, ShortOut, BadTop, FlagLost, BadList, LongSetup, BadWords, BadChips, BadProduct, BadRegisters}
 
 -- nothing is refused
 abbrev pub done : ℕ
@@ -81,3 +83,35 @@ bad_product = 18
 -- the listed registers are none, too many, not strictly rising, or some that may not be listed
 abbrev pub bad_registers : ℕ
 bad_registers = 19
+
+-- the number of a refusal
+abbrev pub refusal_number : Refusal → ℕ
+refusal_number BadSession = bad_session
+refusal_number BadMapForm = bad_map_form
+refusal_number BadMapEntry = bad_map_entry
+refusal_number BadBank = bad_bank
+refusal_number BadSamples = bad_samples
+refusal_number ShortRecords = short_records
+refusal_number BadOrder = bad_order
+refusal_number BadCount = bad_count
+refusal_number BadStart = bad_start
+refusal_number BadSingle = bad_single
+refusal_number ShortOut = short_out
+refusal_number BadTop = bad_top
+refusal_number FlagLost = flag_lost
+refusal_number BadList = bad_list
+refusal_number LongSetup = long_setup
+refusal_number BadWords = bad_words
+refusal_number BadChips = bad_chips
+refusal_number BadProduct = bad_product
+refusal_number BadRegisters = bad_registers
+
+-- the number that a call gives back
+abbrev pub number_of : {A : Type 0} → Result A Refusal → ℕ
+number_of (Ok _) = done
+number_of (Err refusal) = refusal_number refusal
+
+-- the amount that a call gives back, how many of what it put or found: none where it is refused
+abbrev pub amount_of : Result ℕ Refusal → ℕ
+amount_of (Ok amount) = amount
+amount_of (Err _) = 0

@@ -1,42 +1,47 @@
-// The numbers that calls give back, each under the name that it has in C. What they mean, and in which order they come, the definitions say.
+// Why a call is refused. What each refusal means, and in which order they come, the definitions say.
 #![tactic(auto)]
 
-pub const DONE: u8 = 0;
+ghost use Rattle.std.specs.Prelude.{◌≡◌};
+ghost use Rattle.base_numbers.specs.Numbers.{refusal_number, number_of};
 
-pub const BAD_SESSION: u8 = 1;
+// The refusals, in order of their numbers, which C is given.
+#[derive(Clone, Copy, Debug, PartialEq, Eq)]
+pub enum Refusal {
+    BadSession = 1,
+    BadMapForm = 2,
+    BadMapEntry = 3,
+    BadBank = 4,
+    BadSamples = 5,
+    ShortRecords = 6,
+    BadOrder = 7,
+    BadCount = 8,
+    BadStart = 9,
+    BadSingle = 10,
+    ShortOut = 11,
+    BadTop = 12,
+    FlagLost = 13,
+    BadList = 14,
+    LongSetup = 15,
+    BadWords = 16,
+    BadChips = 17,
+    BadProduct = 18,
+    BadRegisters = 19,
+}
 
-pub const BAD_MAP_FORM: u8 = 2;
+impl From<Refusal> for u8 {
+    ghost from_gives = { λ refusal number. number ≡ refusal_number refusal };
 
-pub const BAD_MAP_ENTRY: u8 = 3;
+    fn from(refusal: Refusal) -> u8 {
+        refusal as u8
+    }
+}
 
-pub const BAD_BANK: u8 = 4;
-
-pub const BAD_SAMPLES: u8 = 5;
-
-pub const SHORT_RECORDS: u8 = 6;
-
-pub const BAD_ORDER: u8 = 7;
-
-pub const BAD_COUNT: u8 = 8;
-
-pub const BAD_START: u8 = 9;
-
-pub const BAD_SINGLE: u8 = 10;
-
-pub const SHORT_OUT: u8 = 11;
-
-pub const BAD_TOP: u8 = 12;
-
-pub const FLAG_LOST: u8 = 13;
-
-pub const BAD_LIST: u8 = 14;
-
-pub const LONG_SETUP: u8 = 15;
-
-pub const BAD_WORDS: u8 = 16;
-
-pub const BAD_CHIPS: u8 = 17;
-
-pub const BAD_PRODUCT: u8 = 18;
-
-pub const BAD_REGISTERS: u8 = 19;
+// The number that a call gives back: 0 where nothing is refused.
+pub fn number_of<T: Copy>(outcome: Result<T, Refusal>) -> u8
+    ensures { result ≡ number_of outcome }
+{
+    match outcome {
+        Ok(_) => 0,
+        Err(refusal) => u8::from(refusal),
+    }
+}
