@@ -43,7 +43,7 @@ pub const LEAST_SIZE: usize = HEAD_SIZE + ENTRY_SIZE * LEAST_COUNT;
 pub const MOST_SIZE: usize = FLAGGED_HEAD_SIZE + ENTRY_SIZE * MOST_COUNT;
 
 // What the map says of the register at one address.
-#[derive(Clone, Copy)]
+#[derive(Clone, Copy, Debug, PartialEq, Eq)]
 pub struct Entry {
     pub kind: u8,
     pub mask: u8,
@@ -100,5 +100,5 @@ pub fn flags(map: &[u8]) -> u8
 pub fn count(map: &[u8]) -> usize
     ensures { result ≡ count_of map.now }
 {
-    byte_at(map, 3) as usize * 256 + byte_at(map, 4) as usize
+    u16::from_be_bytes([byte_at(map, 3), byte_at(map, 4)]) as usize
 }
