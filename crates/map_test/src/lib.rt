@@ -1,8 +1,9 @@
-// The map test: whether a register map may be used. Its number is 0, 2 or 3, the lowest that applies; for an older part then 12.
+// The map test: whether a register map may be used. It is refused by 2 or 3, the lowest that applies; for an older part then by 12.
 #![tactic(auto)]
 
 ghost use Rattle.std.specs.Prelude.{◌≡◌, [], ◌<◌, ◌≤◌, ◌-◌, length};
 ghost use Rattle.base_bits.specs.Tests.{every};
+ghost use Rattle.base_numbers.specs.Numbers.{number_of};
 ghost use Rattle.base_chip.specs.declared.Chip.TheVariants.{Newer, Older};
 ghost use Rattle.map_format.specs.Format.{least_count, count_of, register_at};
 ghost use Rattle.map_test.specs.MapTest.{form_tests, Formed, kind_rule, older_kinds, entries_good, product_good, further_tests};
@@ -11,7 +12,7 @@ ghost use Rattle.map_test.specs.MapTest.{rules_good, map_number, top_fits, map_t
 mod places;
 
 use base_chip::{Chip, Part, top_good};
-use base_numbers::{BAD_MAP_ENTRY, BAD_MAP_FORM, BAD_TOP, DONE};
+use base_numbers::Refusal;
 use map_format::{
     BLANK, BUFFERED, CONTROL, ENTRY_SIZE, Entry, FLAGGED, HEAD_SIZE, LEAST_COUNT, LENGTH_SIZE,
     MOST_COUNT, PLAIN, READ_ONLY, count, flags, head,
@@ -148,17 +149,17 @@ fn rules_good(chip: Chip, map: &[u8]) -> bool
     }
 }
 
-// Whether a chip can have a map, whatever its top: 0, or 2 where the form is wrong, or 3 where an entry breaks a rule.
-pub fn map_number(chip: Chip, map: &[u8]) -> u8
-    ensures { result ≡ map_number chip map.now }
+// Whether a chip can have a map, whatever its top: refused by 2 where the form is wrong, or by 3 where an entry breaks a rule.
+pub fn check_map(chip: Chip, map: &[u8]) -> Result<(), Refusal>
+    ensures { number_of result ≡ map_number chip map.now }
 {
-    if form_good(map) {
-        if rules_good(chip, map) {
-            return DONE;
-        }
-        return BAD_MAP_ENTRY;
+    if !form_good(map) {
+        return Err(Refusal::BadMapForm);
     }
-    BAD_MAP_FORM
+    if !rules_good(chip, map) {
+        return Err(Refusal::BadMapEntry);
+    }
+    Ok(())
 }
 
 // Whether the top of an older part is one that it can have, and the last address of the map.
@@ -176,27 +177,21 @@ pub fn top_fits(chip: Chip, map: &[u8]) -> bool
     }
 }
 
-// Whether a map may be used with a newer chip: 0, 2 or 3.
-pub fn map_test(map: &[u8]) -> u8
-    ensures { result ≡ map_number Newer map.now }
+// Whether a map may be used with a newer chip: refused by 2 or 3.
+pub fn map_test(map: &[u8]) -> Result<(), Refusal>
+    ensures { number_of result ≡ map_number Newer map.now }
 {
-    map_number(Chip::Newer, map)
+    check_map(Chip::Newer, map)
 }
 
-// Whether a map may be used with an older part whose highest address is top: 0, 2, 3 or 12.
-pub fn map_test_older(part: Part, top: u64, map: &[u8]) -> u8
-    ensures { result ≡ map_test_number (Older part top) map.now }
+// Whether a map may be used with an older part whose highest address is top: refused by 2, 3 or 12.
+pub fn map_test_older(part: Part, top: u64, map: &[u8]) -> Result<(), Refusal>
+    ensures { number_of result ≡ map_test_number (Older part top) map.now }
 {
-    let chip = Chip::Older {
-        part: part,
-        top: top,
-    };
-    let number = map_number(chip, map);
-    if number != DONE {
-        return number;
-    }
+    let chip = Chip::Older { part, top };
+    check_map(chip, map)?;
     if top_fits(chip, map) {
-        return DONE;
+        return Ok(());
     }
-    BAD_TOP
+    Err(Refusal::BadTop)
 }
