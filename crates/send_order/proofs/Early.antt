@@ -2,7 +2,7 @@
 use mathlib.Core.Path.{◌≡◌, refl, sym, ◌∙◌}
 use mathlib.Core.Bool.{Bool, true, false, ◌||◌}
 use mathlib.Core.List.{List, [], ◌∷◌}
-use Prim.Native.Nat.{ℕ, zero, suc, ◌+◌, ◌<◌, ◌≤◌}
+use Prim.Native.Nat.{ℕ, zero, suc, ◌+◌, ◌-◌, ◌<◌, ◌≤◌}
 use native.Mathlib.Omega.{arith}
 use native.Mathlib.Numerals.{add-one}
 use lib.ListN.{length, drop}
@@ -33,18 +33,20 @@ early_last up a (v ∷ []) zero h = refl
 early_last up a (v ∷ w ∷ vs) zero h = absurd (omega arith)
 early_last up a (v ∷ vs) (suc i) h = early_last up a vs i (omega arith)
 
--- The addresses of the bytes before i are neither 0x0000 nor 0x0001: so it is for the rest to say.
-pub record Looking (up : Bool) (start : ℕ) (vs : List ℕ) (a i : ℕ) : Type 0 where
-  pub within : i ≤ length vs
+-- The addresses of the bytes before number n are neither 0x0000 nor 0x0001, counted from 1: so it is for the rest to say.
+pub record Looking (up : Bool) (start : ℕ) (vs : List ℕ) (a n : ℕ) : Type 0 where
+  pub some : 1 ≤ n
   pub near : a < 0x8000
-  pub rest : configures_early (run_from up a (drop i vs)) ≡ configures_early (run_from up start vs)
+  pub rest : configures_early (run_from up a (drop (n - 1) vs)) ≡ configures_early (run_from up start vs)
 
-module _ {up : Bool} {start : ℕ} {vs : List ℕ} {a i : ℕ} (k : Looking up start vs a i) where
-  pub found : i + 1 < length vs → (eqb a configuration_a || eqb a configuration_b) ≡ true → true ≡ configures_early (run_from up start vs)
-  found h t = sym (early_next up a vs i h ∙ rw t) ∙ k.rest
+module _ {up : Bool} {start : ℕ} {vs : List ℕ} {a n : ℕ} (k : Looking up start vs a n) where
+  pub found : n < length vs → (eqb a configuration_a || eqb a configuration_b) ≡ true → true ≡ configures_early (run_from up start vs)
+  found h t = sym (early_next up a vs (n - 1) (omega (arith, k.some)) ∙ rw t) ∙ k.rest
 
-  pub passed : i + 1 < length vs → (eqb a configuration_a || eqb a configuration_b) ≡ false → Looking up start vs (next_address up a) (i + 1)
-  passed h t = record { within = omega arith; near = next_lt up a; rest = sym (early_next up a vs i h ∙ rw t) ∙ k.rest }
+  pub passed : n < length vs → (eqb a configuration_a || eqb a configuration_b) ≡ false → Looking up start vs (next_address up a) (n + 1)
+  passed h t =
+      let place : n + 1 - 1 ≡ n - 1 + 1 = omega (arith, k.some) in
+      record { some = omega arith; near = next_lt up a; rest = rw place (sym (early_next up a vs (n - 1) (omega (arith, k.some)) ∙ rw t) ∙ k.rest) }
 
-  pub missed : length vs ≤ i + 1 → false ≡ configures_early (run_from up start vs)
-  missed h = sym (early_last up a vs i h) ∙ k.rest
+  pub missed : length vs ≤ n → false ≡ configures_early (run_from up start vs)
+  missed h = sym (early_last up a vs (n - 1) (omega arith)) ∙ k.rest

@@ -108,13 +108,11 @@ fn configures_early(single_write: bool, ascending: bool, start: u16, data: &[u8]
         return false;
     }
     let mut address = start;
-    let mut i: usize = 0;
-    while i + 1 < data.len() {
+    for _ in 1..data.len() {
         if (address == CONFIGURATION_A) | (address == CONFIGURATION_B) {
             return true;
         }
         address = next_address(ascending, address);
-        i += 1;
     }
     false
 }
