@@ -3,13 +3,14 @@
 
 ghost use Rattle.std.specs.Prelude.{◌≡◌, true, cond, ◌&&◌, List, [], ℕ, ◌+◌, ◌*◌, ◌<◌, ◌≤◌, leb, length};
 ghost use Rattle.base_bits.specs.Tests.{every};
+ghost use Rattle.base_numbers.specs.Numbers.{number_of};
 ghost use Rattle.base_chip.specs.Chip.{top_good};
 ghost use Rattle.send_order.specs.Order.{with_data, goes_up, is_single, run_from};
 ghost use Rattle.send_order.specs.Number.{configures_early, count_tests, most_settings, up_to, addresses_good, send_number};
 
 use base_bits::bit_at;
 use base_chip::{CONFIGURATION_A, CONFIGURATION_B, Chip, is_newer, top_good};
-use base_numbers::{BAD_COUNT, BAD_ORDER, BAD_SINGLE, BAD_START, BAD_TOP, DONE, SHORT_OUT};
+use base_numbers::Refusal;
 use bus_settings::next_address;
 
 // The bits of a settings number.
@@ -129,29 +130,29 @@ pub fn sample_count(single_instruction: bool, runs: usize, bytes: usize) -> usiz
     }
 }
 
-// The number of an order to a chip with so much room: that of the first test that fails, 0 where none does.
-pub fn number_of(chip: Chip, order: Order, data: &[u8], room: usize) -> u8
-    ensures { result ≡ send_number chip (with_data order «data».now) room }
+// Whether an order to a chip with so much room is refused: by the first test that fails.
+pub fn check(chip: Chip, order: Order, data: &[u8], room: usize) -> Result<(), Refusal>
+    ensures { number_of result ≡ send_number chip (with_data order «data».now) room }
 {
     if !top_good(chip) {
-        return BAD_TOP;
+        return Err(Refusal::BadTop);
     }
     if !is_named(chip, order) {
-        return BAD_ORDER;
+        return Err(Refusal::BadOrder);
     }
     if !count_fits(order, data) {
-        return BAD_COUNT;
+        return Err(Refusal::BadCount);
     }
     if !addresses_good(chip, order) {
-        return BAD_START;
+        return Err(Refusal::BadStart);
     }
     let single_instruction = is_single(chip, order);
     let single_write = single_instruction & (order.direction != 1);
     if configures_early(single_write, goes_up(chip, order), order.start as u16, data) {
-        return BAD_SINGLE;
+        return Err(Refusal::BadSingle);
     }
     if room < sample_count(single_instruction, 1, order.count as usize) {
-        return SHORT_OUT;
+        return Err(Refusal::ShortOut);
     }
-    DONE
+    Ok(())
 }

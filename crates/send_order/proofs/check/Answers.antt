@@ -1,4 +1,4 @@
--- `number_of` meets its contract: the tests stand in the order of the definition, and the first that fails gives its number.
+-- `check` meets its contract: the tests stand in the order of the definition, and the first that fails gives its number.
 use mathlib.Core.Path.{◌≡◌, sym, ◌∙◌}
 use mathlib.Core.Bool.{true}
 use Prim.Native.Nat.{◌≤◌}
@@ -13,7 +13,7 @@ use Rattle.send_order.specs.Order.{Order, with_data}
 use Rattle.send_order.specs.Number.{count_tests, most_settings}
 use Rattle.send_order.proofs.Laws.{counted, settings_few, start_near}
 use Rattle.send_order.proofs.Refusals.{named, early_data, Within, number_12, number_7, number_8, number_9, number_10, number_11, number_0}
-use Rattle.send_order.proofs.number_of.Goals as goal
+use Rattle.send_order.proofs.check.Goals as goal
 
 -- a settings number that passes names settings of a chip
 few_settings : (chip : Chip) (o : Order) → named chip o ≡ true → o.settings ≤ 7
