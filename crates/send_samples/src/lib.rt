@@ -1,7 +1,8 @@
-// The sender: the samples of one read or write run, from an order, or the number that refuses it.
+// The sender: the samples of one read or write run, from an order, or why it is refused.
 #![tactic(auto)]
 
 ghost use Rattle.std.specs.Prelude.{◌≡◌, [], ◌≤◌};
+ghost use Rattle.base_numbers.specs.Numbers.{number_of, amount_of};
 ghost use Rattle.base_chip.specs.declared.Chip.TheVariants.{Newer};
 ghost use Rattle.send_order.specs.Order.{order, with_data};
 ghost use Rattle.send_samples.specs.Calls.{sending, send_of};
@@ -11,19 +12,12 @@ mod older;
 mod samples;
 
 use base_bits::bit_at;
-use base_card::CARD;
+use base_card::Card;
 use base_chip::Chip;
-use base_numbers::DONE;
+use base_numbers::Refusal;
 pub use older::send_older;
 pub use samples::put_samples;
-use send_order::{ORDER_ASCENDING, ORDER_LSB_FIRST, ORDER_SINGLE_INSTRUCTION, Order, number_of};
-
-// What a call of the sender answers: the number, and how many samples it put.
-#[derive(Clone, Copy)]
-pub struct Sent {
-    pub number: u8,
-    pub count: usize,
-}
+use send_order::{ORDER_ASCENDING, ORDER_LSB_FIRST, ORDER_SINGLE_INSTRUCTION, Order, check};
 
 // How the run of an order goes: its direction, and its settings by name.
 #[derive(Clone, Copy)]
@@ -48,7 +42,7 @@ fn run_of(order: Order) -> RunSettings
     }
 }
 
-// Puts the samples of an order to a newer chip at the start of the outgoing buffer. A refusal leaves the buffer as it was.
+// Puts the samples of an order to a newer chip at the start of the outgoing buffer, and tells how many they are. A refusal leaves the buffer as it was.
 pub fn send(
     direction: u64,
     settings: u64,
@@ -56,27 +50,16 @@ pub fn send(
     count: u64,
     data: &[u8],
     out: &mut [u8],
-) -> Sent
-    ensures { sending result.number result.count out.new
+) -> Result<usize, Refusal>
+    ensures { sending (number_of result) (amount_of result) out.new
         ≡ send_of Newer (order direction settings start count «data».now) out.old }
 {
     let order = Order {
-        direction: direction,
-        settings: settings,
-        start: start,
-        count: count,
+        direction,
+        settings,
+        start,
+        count,
     };
-    let number = number_of(Chip::Newer, order, data, out.len());
-    if number == DONE {
-        let card = CARD;
-        let samples = put_samples(&card, order, data, out);
-        return Sent {
-            number: DONE,
-            count: samples,
-        };
-    }
-    Sent {
-        number: number,
-        count: 0,
-    }
+    check(Chip::Newer, order, data, out.len())?;
+    Ok(put_samples(&Card::new(), order, data, out))
 }

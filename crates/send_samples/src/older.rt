@@ -1,6 +1,7 @@
 // The sender to an older chip: its run is that of a newer chip which ascends with LSB first, with its length over the address.
 ghost use Rattle.std.specs.Prelude.{◌≡◌, cond, false, [], ◌+◌, ◌*◌, ◌≤◌, length};
 ghost use Rattle.base_bits.specs.Buffer.{Put};
+ghost use Rattle.base_numbers.specs.Numbers.{number_of, amount_of};
 ghost use Rattle.base_chip.specs.Chip.{is_newer};
 ghost use Rattle.base_chip.specs.declared.Part.{Part};
 ghost use Rattle.base_chip.specs.declared.Chip.{Chip};
@@ -9,12 +10,11 @@ ghost use Rattle.send_order.specs.Order.{order, with_data, is_read};
 ghost use Rattle.send_order.specs.Samples.{length_bits, samples_of};
 ghost use Rattle.send_samples.specs.Calls.{sending, send_of};
 
-use crate::Sent;
 use crate::samples::put_all;
-use base_card::CARD;
+use base_card::Card;
 use base_chip::{Chip, Part};
-use base_numbers::DONE;
-use send_order::{Order, number_of};
+use base_numbers::Refusal;
+use send_order::{Order, check};
 
 // Times the settings number of an older chip: that of the same run on a newer one, where ascending goes with LSB first.
 const LSB_ASCENDING: u64 = 3;
@@ -35,17 +35,14 @@ fn put_older(order: Order, data: &[u8], out: &mut [u8]) -> usize
     ensures { (c : Chip) → is_newer c ≡ false → Put out.old 0 (samples_of c (with_data order «data».now)) result out.new }
 {
     let on_newer = Order {
-        direction: order.direction,
         settings: order.settings * LSB_ASCENDING,
-        start: order.start,
-        count: order.count,
+        ..order
     };
     let lower = length_bits(order.count as usize) * 0x2000 + order.start as u16;
-    let card = CARD;
-    put_all(&card, on_newer, lower, data, out)
+    put_all(&Card::new(), on_newer, lower, data, out)
 }
 
-// Puts the samples of an order to an older chip at the start of the outgoing buffer. A refusal leaves the buffer as it was. The caller
+// Puts the samples of an order to an older chip at the start of the outgoing buffer, and tells how many they are. A refusal leaves the buffer as it was. The caller
 // names the chip's highest address, and no part: what is sent does not depend on it.
 pub fn send_older(
     top: u64,
@@ -55,30 +52,20 @@ pub fn send_older(
     count: u64,
     data: &[u8],
     out: &mut [u8],
-) -> Sent
-    ensures { (part : Part) → sending result.number result.count out.new
+) -> Result<usize, Refusal>
+    ensures { (part : Part) → sending (number_of result) (amount_of result) out.new
         ≡ send_of (Older part top) (order direction settings start count «data».now) out.old }
 {
     let chip = Chip::Older {
         part: Part::Ad9557,
-        top: top,
+        top,
     };
     let order = Order {
-        direction: direction,
-        settings: settings,
-        start: start,
-        count: count,
+        direction,
+        settings,
+        start,
+        count,
     };
-    let number = number_of(chip, order, data, out.len());
-    if number == DONE {
-        let samples = put_older(order, data, out);
-        return Sent {
-            number: DONE,
-            count: samples,
-        };
-    }
-    Sent {
-        number: number,
-        count: 0,
-    }
+    check(chip, order, data, out.len())?;
+    Ok(put_older(order, data, out))
 }

@@ -1,7 +1,6 @@
 // The samples of a run, put into a buffer. Each function here gives the place after what it puts. Where bits are sent the card is lent.
 ghost use Rattle.std.specs.Prelude.{◌≡◌, cond, false, [], ◌+◌, ◌<◌, ◌≤◌, length};
 ghost use Rattle.base_bits.specs.Buffer.{Put};
-ghost use Rattle.base_card.specs.Card.{IsCard};
 ghost use Rattle.base_chip.specs.declared.Chip.TheVariants.{Newer};
 ghost use Rattle.send_order.specs.Order.{with_data, is_read, sent_of, sent_bytes};
 ghost use Rattle.send_order.specs.Samples.{high_first, bits_of, clocked, instruction_of, samples_of};
@@ -9,7 +8,7 @@ ghost use Rattle.send_order.specs.Number.{send_number};
 ghost use Rattle.send_samples.specs.Run.{order_run, sent_byte, opening_samples, own_samples, byte_samples, run_samples, closing_samples, whole_samples};
 
 use crate::{RunSettings, run_of};
-use base_card::in_order;
+use base_card::Card;
 use bus_settings::next_address;
 use send_order::Order;
 
@@ -41,12 +40,11 @@ fn put_nibble(x: u8, out: &mut [u8], at: usize) -> usize
 }
 
 // Puts the samples of a byte. Its bits go out highest first; where the lowest goes first, those of the turned byte.
-fn put_eight(card: &[u8; 16], lsb_first: bool, x: u8, out: &mut [u8], at: usize) -> usize
+fn put_eight(card: &Card, lsb_first: bool, x: u8, out: &mut [u8], at: usize) -> usize
     requires at_in_bounds { at + 16 ≤ length out.old }
-    requires card { IsCard card.now }
     ensures { Put out.old at (clocked (bits_of lsb_first 8 x)) result out.new }
 {
-    let sent = in_order(card, lsb_first, x);
+    let sent = card.in_order(lsb_first, x);
     let n = put_nibble(sent / 16, out, at);
     put_nibble(sent % 16, out, n)
 }
@@ -59,9 +57,8 @@ fn first_of(lsb_first: bool, high: u8, low: u8) -> u8
 }
 
 // Puts the samples of sixteen bits: all of them are turned, so the two bytes change places too.
-fn put_sixteen(card: &[u8; 16], lsb_first: bool, x: u16, out: &mut [u8], at: usize) -> usize
+fn put_sixteen(card: &Card, lsb_first: bool, x: u16, out: &mut [u8], at: usize) -> usize
     requires at_in_bounds { at + 32 ≤ length out.old }
-    requires card { IsCard card.now }
     ensures { Put out.old at (clocked (bits_of lsb_first 16 x)) result out.new }
 {
     let high = (x / 256) as u8;
@@ -87,9 +84,8 @@ fn sent_byte(read: bool, data: &[u8], i: usize) -> u8
 }
 
 // Puts the instruction of one byte, if it has its own.
-fn put_own(card: &[u8; 16], run: RunSettings, address: u16, out: &mut [u8], at: usize) -> usize
+fn put_own(card: &Card, run: RunSettings, address: u16, out: &mut [u8], at: usize) -> usize
     requires address_bound { (address < 0x8000) × (at + length (own_samples run address) ≤ length out.old) }
-    requires card { IsCard card.now }
     ensures { Put out.old at (own_samples run address) result out.new }
 {
     if run.single_instruction {
@@ -100,7 +96,7 @@ fn put_own(card: &[u8; 16], run: RunSettings, address: u16, out: &mut [u8], at: 
 
 // Puts the samples of byte i. What goes out in it is read after its instruction is put: read before that, it would take a register more.
 fn put_byte(
-    card: &[u8; 16],
+    card: &Card,
     run: RunSettings,
     address: u16,
     data: &[u8],
@@ -110,7 +106,6 @@ fn put_byte(
 ) -> usize
     requires address_bound { (address < 0x8000) × (run.read ≡ false → i < length «data».now) }
     requires i_in_bounds { at + length (byte_samples run address (sent_byte run.read «data».now i)) ≤ length out.old }
-    requires card { IsCard card.now }
     ensures { Put out.old at (byte_samples run address (sent_byte run.read «data».now i)) result out.new }
 {
     let n = put_own(card, run, address, out, at);
@@ -119,7 +114,7 @@ fn put_byte(
 
 // Puts the samples of all bytes of a run, from the start address on.
 fn put_run(
-    card: &[u8; 16],
+    card: &Card,
     run: RunSettings,
     start: u16,
     count: usize,
@@ -130,7 +125,6 @@ fn put_run(
     requires start_bound { start < 0x8000 }
     requires data_len { length «data».now ≡ cond run.read 0 count }
     requires data_in_bounds { at + length (run_samples run start (sent_of run.read count «data».now)) ≤ length out.old }
-    requires card { IsCard card.now }
     ensures { Put out.old at (run_samples run start (sent_of run.read count «data».now)) result out.new }
 {
     let mut address = start;
@@ -145,9 +139,8 @@ fn put_run(
 }
 
 // Puts the first sample, and but for single instruction the instruction before all bytes, by its bits 14 to 0.
-fn put_opening(card: &[u8; 16], run: RunSettings, lower: u16, out: &mut [u8]) -> usize
+fn put_opening(card: &Card, run: RunSettings, lower: u16, out: &mut [u8]) -> usize
     requires lower_bound { (lower < 0x8000) × (length (opening_samples run lower) ≤ length out.old) }
-    requires card { IsCard card.now }
     ensures { Put out.old 0 (opening_samples run lower) result out.new }
 {
     out[0] = 0x00;
@@ -168,12 +161,11 @@ fn put_closing(out: &mut [u8], at: usize) -> usize
 }
 
 // Puts all samples of a run at the start of the buffer, with bits 14 to 0 of the instruction before it.
-pub fn put_all(card: &[u8; 16], order: Order, lower: u16, data: &[u8], out: &mut [u8]) -> usize
+pub fn put_all(card: &Card, order: Order, lower: u16, data: &[u8], out: &mut [u8]) -> usize
     requires settings_bound { (order.settings ≤ 7) × (order.start < 0x8000) × (lower < 0x8000) }
     requires data_len { length «data».now ≡ cond (is_read (with_data order [])) 0 order.count }
     requires data_in_bounds { length (whole_samples (order_run Newer (with_data order [])) lower order.start (sent_bytes (with_data order «data».now))) ≤ length
         out.old }
-    requires card { IsCard card.now }
     ensures { Put out.old 0
         (whole_samples (order_run Newer (with_data order [])) lower order.start (sent_bytes (with_data order «data».now))) result
         out.new }
@@ -193,9 +185,8 @@ pub fn put_all(card: &[u8; 16], order: Order, lower: u16, data: &[u8], out: &mut
 }
 
 // Puts all samples of an order to a newer chip that is not refused, at the start of the buffer.
-pub fn put_samples(card: &[u8; 16], order: Order, data: &[u8], out: &mut [u8]) -> usize
+pub fn put_samples(card: &Card, order: Order, data: &[u8], out: &mut [u8]) -> usize
     requires out_value { send_number Newer (with_data order «data».now) (length out.old) ≡ 0 }
-    requires card { IsCard card.now }
     ensures { Put out.old 0 (samples_of Newer (with_data order «data».now)) result out.new }
 {
     put_all(card, order, order.start as u16, data, out)

@@ -4,7 +4,6 @@ use mathlib.Core.List.{List}
 use Prim.Native.Nat.{ℕ, ◌+◌, ◌*◌}
 use native.Mathlib.Omega.{arith}
 use Rattle.base_bits.specs.Buffer.{Put}
-use Rattle.base_card.proofs.Entries.{is_card}
 use Rattle.send_order.specs.Order.{with_data}
 use Rattle.send_order.specs.Samples.{length_bits}
 use Rattle.send_order.proofs.Laws.{length_bits_few}
@@ -31,7 +30,6 @@ put_all-requires c =
       data_len = pre.data_len;
       data_in_bounds =
           omega (arith, length_older (with_data o c.args.«data».now) _ pre.settings_bound.0 lower pre.data_len, pre.count_in_bounds);
-      card = is_card;
     }
 
 pub returns : goal.returns

@@ -2,6 +2,7 @@
 use mathlib.Core.Path.{refl, sym, ◌∙◌}
 use native.Mathlib.Omega.{arith}
 use lib.ListN.{length}
+use Rattle.std.proofs.lemmas.Result.{err_from_is_err_and}
 use Rattle.base_chip.specs.declared.Chip.{Chip}
 use Rattle.base_chip.specs.declared.Part.TheVariants.{Ad9557}
 use Rattle.base_chip.specs.declared.Chip.TheVariants.{Older}
@@ -10,12 +11,17 @@ use Rattle.send_order.proofs.Laws.{Admitted, admitted, top_low, older_start, len
 use Rattle.send_samples.proofs.Answer.{done, refused, either_part}
 use Rattle.send_samples.proofs.older.send_older.Goals as goal
 
-pub put_older-samples-requires : goal.put_older-samples-requires
-put_older-samples-requires c =
+pub returns-in_err-check : goal.returns-in_err-check
+returns-in_err-check c = λ part.
+    let o = order c.args.direction c.args.settings c.args.start c.args.count c.args.«data».now in
+    let p = err_from_is_err_and c.from_residual.result c.from_residual.ensures.1 in
+    rw (p.1, p.2) (refused (Older Ad9557 c.args.top) o _ _ c.in_err-check.ensures ∙ either_part Ad9557 part c.args.top o _)
+
+pub put_older-requires : goal.put_older-requires
+put_older-requires c =
     let chip : Chip = Older Ad9557 c.args.top in
     let o = order c.args.direction c.args.settings c.args.start c.args.count c.args.«data».now in
-    let t : Admitted chip o (length c.args.out.now) =
-    admitted chip o _ (sym c.number_of-number.ensures ∙ c.if-number-eq-DONE.true) in
+    let t : Admitted chip o (length c.args.out.now) = admitted chip o _ (sym c.in_ok-check.ensures) in
     let near = older_start Ad9557 c.args.top o t.count t.addresses in
     record {
       settings_bound = (t.settings, omega (arith, near, top_low Ad9557 c.args.top t.top), t.count.some);
@@ -23,15 +29,8 @@ put_older-samples-requires c =
       count_in_bounds = omega (arith, length_counted chip o t.count, t.enough);
     }
 
-pub returns-then-number-eq-DONE : goal.returns-then-number-eq-DONE
-returns-then-number-eq-DONE c = λ part.
-    let chip : Chip = Older Ad9557 c.args.top in
-    let o = order c.args.direction c.args.settings c.args.start c.args.count c.args.«data».now in
-    done chip o _ _ _ _ c.number_of-number.ensures c.if-number-eq-DONE.true (c.put_older-samples.ensures chip refl)
-    ∙ either_part Ad9557 part c.args.top o _
-
 pub returns : goal.returns
 returns c = λ part.
     let chip : Chip = Older Ad9557 c.args.top in
     let o = order c.args.direction c.args.settings c.args.start c.args.count c.args.«data».now in
-    refused chip o _ _ c.number_of-number.ensures c.if-number-eq-DONE.false ∙ either_part Ad9557 part c.args.top o _
+    done chip o _ _ _ c.in_ok-check.ensures (c.put_older.ensures chip refl) ∙ either_part Ad9557 part c.args.top o _

@@ -40,7 +40,7 @@ put_opening-first-requires c =
       ap (λ (s : RunSettings). length (all s a.lower a.order.start (sent_of s.read a.order.count a.«data».now))) c.run_of-run.ensures,
     )) in
     let fits = next_fits whole (first r a.lower a.order.start vs) in
-    record { lower_bound = (c.requires.settings_bound.2, omega arith); card = c.requires.card }
+    record { lower_bound = (c.requires.settings_bound.2, omega arith) }
 
 pub put_run-last-requires : goal.put_run-last-requires
 put_run-last-requires c =
@@ -58,7 +58,6 @@ put_run-last-requires c =
       start_bound = c.requires.settings_bound.1;
       data_len = rw c.run_of-run.ensures c.requires.data_len;
       data_in_bounds = next_fits opened (second r a.lower a.order.start vs);
-      card = c.requires.card;
     }
 
 pub put_closing-requires : goal.put_closing-requires

@@ -10,7 +10,6 @@ put_own-n-requires c =
     let a = c.args in
     record {
       address_bound = (c.requires.address_bound.0, omega (arith, length_parts a.run a.address (sent_byte a.run.read a.«data».now a.i), c.requires.i_in_bounds));
-      card = c.requires.card;
     }
 
 pub sent_byte-requires : goal.sent_byte-requires
@@ -22,7 +21,6 @@ put_eight-requires c =
     let whole = length_parts a.run a.address (sent_byte a.run.read a.«data».now a.i) in
     record {
       at_in_bounds = omega (arith, c.put_own-n.ensures.next_place, c.put_own-n.auto.out, whole, c.requires.i_in_bounds);
-      card = c.requires.card;
     }
 
 pub returns : goal.returns

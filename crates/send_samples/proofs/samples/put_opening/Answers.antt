@@ -17,7 +17,7 @@ put_sixteen-requires c =
     let a = c.args in
     let room = rw c.if-run.false at c.requires.lower_bound.1 in
     let bits : length (clocked (bits_of a.run.lsb_first 16 (instruction_of a.run.read a.lower))) ≡ 32 = simp (length_clocked, length_bits_lem) in
-    record { at_in_bounds = simp length-set (omega arith); card = c.requires.card }
+    record { at_in_bounds = simp length-set (omega arith) }
 
 pub shape_of-out : goal.shape_of-out
 shape_of-out c = c.put_sixteen.auto.out ∙ simp length-set

@@ -11,7 +11,7 @@ put_sixteen-requires c =
     let a = c.args in
     let room = rw c.if-run.true at c.requires.address_bound.1 in
     let bits : length (clocked (bits_of a.run.lsb_first 16 (instruction_of a.run.read a.address))) ≡ 32 = simp (length_clocked, length_bits_lem) in
-    record { at_in_bounds = omega arith; card = c.requires.card }
+    record { at_in_bounds = omega arith }
 
 pub returns-then-run : goal.returns-then-run
 returns-then-run c =

@@ -17,7 +17,6 @@ put_byte-n-requires c =
     record {
       address_bound = (c.loop-i.invariant.1, λ t. omega (arith, h, rw t at c.requires.data_len));
       i_in_bounds = next_fits c.loop-i.invariant.2 turn;
-      card = c.requires.card;
     }
 
 pub loop-i-smaller : goal.loop-i-smaller

@@ -30,7 +30,6 @@ put_all-requires c =
       settings_bound = (t.settings, omega (arith, t.start), omega (arith, t.start));
       data_len = t.count.data_length;
       data_in_bounds = omega (arith, ap length (same o), t.enough);
-      card = c.requires.card;
     }
 
 pub returns : goal.returns

@@ -12,7 +12,6 @@ put_eight-requires c = record {
     c.put_eight-n.auto.out,
     c.requires.at_in_bounds,
   );
-  card = c.requires.card;
 }
 
 pub returns : goal.returns
