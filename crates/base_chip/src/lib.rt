@@ -19,14 +19,14 @@ pub const READBACK_CONTROL: u16 = 0x0004;
 pub const OLDER_TRANSFER: u16 = 0x0005;
 
 // The older parts. They differ in one thing: the AD9557 can read the buffer stage.
-#[derive(Clone, Copy)]
+#[derive(Clone, Copy, Debug, PartialEq, Eq)]
 pub enum Part {
     Ad9557,
     Ad9508,
 }
 
 // A newer chip, or an older part with the highest address that it has. The address is as wide as a caller can name it.
-#[derive(Clone, Copy)]
+#[derive(Clone, Copy, Debug, PartialEq, Eq)]
 pub enum Chip {
     Newer,
     Older { part: Part, top: u64 },
@@ -36,20 +36,14 @@ pub enum Chip {
 pub fn is_newer(chip: Chip) -> bool
     ensures { result ≡ is_newer chip }
 {
-    match chip {
-        Chip::Newer => true,
-        Chip::Older { part: _, top: _ } => false,
-    }
+    matches!(chip, Chip::Newer)
 }
 
 // Whether an older part can read the buffer stage.
 pub fn part_reads_buffer(part: Part) -> bool
     ensures { result ≡ part_reads_buffer part }
 {
-    match part {
-        Part::Ad9557 => true,
-        Part::Ad9508 => false,
-    }
+    matches!(part, Part::Ad9557)
 }
 
 // Whether buffer readback, if it is set, counts on a chip.
@@ -58,7 +52,7 @@ pub fn reads_buffer(chip: Chip) -> bool
 {
     match chip {
         Chip::Newer => true,
-        Chip::Older { part, top: _ } => part_reads_buffer(part),
+        Chip::Older { part, .. } => part_reads_buffer(part),
     }
 }
 
@@ -68,6 +62,6 @@ pub fn top_good(chip: Chip) -> bool
 {
     match chip {
         Chip::Newer => true,
-        Chip::Older { part: _, top } => (0x000F <= top) & (top <= 0x1FFF),
+        Chip::Older { top, .. } => (0x000F <= top) & (top <= 0x1FFF),
     }
 }
