@@ -45,7 +45,7 @@ pub fn transfers_at(chip: Chip, address: u16, v: u8) -> bool
 {
     match chip {
         Chip::Newer => (address == TRANSFER) & bit_at(v, TRANSFER_BIT),
-        Chip::Older { part: _, top: _ } => (address == OLDER_TRANSFER) & bit_at(v, TRANSFER_BIT),
+        Chip::Older { .. } => (address == OLDER_TRANSFER) & bit_at(v, TRANSFER_BIT),
     }
 }
 
@@ -101,7 +101,7 @@ impl Settings {
     {
         match chip {
             Chip::Newer => self.after_newer(address, v),
-            Chip::Older { part, top: _ } => self.after_older(part, address, v),
+            Chip::Older { part, .. } => self.after_older(part, address, v),
         }
     }
 
@@ -139,7 +139,7 @@ impl Settings {
     {
         match chip {
             Chip::Newer => self.reading_newer(address),
-            Chip::Older { part: _, top: _ } => self.reading_older(address),
+            Chip::Older { .. } => self.reading_older(address),
         }
     }
 }

@@ -10,7 +10,7 @@ mod control;
 use base_chip::Chip;
 pub use control::{SLOW_BIT, asks_reset, transfers_at};
 
-#[derive(Clone, Copy)]
+#[derive(Clone, Copy, Debug, Default, PartialEq, Eq)]
 pub struct Settings {
     pub lsb_first: bool,
     pub ascending: bool,
@@ -20,7 +20,7 @@ pub struct Settings {
 }
 
 // The settings in use: those that an instruction took when it started.
-#[derive(Clone, Copy)]
+#[derive(Clone, Copy, Debug, Default, PartialEq, Eq)]
 pub struct InUse {
     pub lsb_first: bool,
     pub ascending: bool,
@@ -32,20 +32,14 @@ pub struct InUse {
 pub fn all_clear() -> Settings
     ensures { result ≡ all_clear }
 {
-    Settings {
-        lsb_first: false,
-        ascending: false,
-        sdo_active: false,
-        single_instruction: false,
-        readback: false,
-    }
+    Settings::default()
 }
 
 // The settings in use at rest: none.
 pub fn none_in_use() -> InUse
     ensures { result ≡ none_in_use }
 {
-    all_clear().in_use()
+    InUse::default()
 }
 
 impl Settings {
@@ -69,14 +63,11 @@ impl InUse {
     {
         match chip {
             Chip::Newer => self,
-            Chip::Older { part: _, top: _ } => {
-                InUse {
-                    lsb_first: self.lsb_first,
-                    ascending: self.lsb_first,
-                    sdo_active: false,
-                    single_instruction: false,
-                }
-            }
+            Chip::Older { .. } => InUse {
+                lsb_first: self.lsb_first,
+                ascending: self.lsb_first,
+                ..none_in_use()
+            },
         }
     }
 }

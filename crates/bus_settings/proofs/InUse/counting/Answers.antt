@@ -5,4 +5,4 @@ use Rattle.bus_settings.specs.Settings.{counting}
 use Rattle.bus_settings.proofs.InUse.counting.Goals as goal
 
 pub returns-in-Older : goal.returns-in-Older
-returns-in-Older c = ap (λ (k : Chip). counting k c.args.self) (sym c.in-Older.is)
+returns-in-Older c = rw c.none_in_use.ensures (ap (λ (k : Chip). counting k c.args.self) (sym c.in-Older.is))
