@@ -12,11 +12,7 @@ use base_chip::Chip;
 pub fn is_data(phase: Phase) -> bool
     ensures { result ≡ is_data phase }
 {
-    match phase {
-        Phase::Rest => false,
-        Phase::Instruction => false,
-        Phase::Data => true,
-    }
+    matches!(phase, Phase::Data)
 }
 
 impl Port {
@@ -25,14 +21,12 @@ impl Port {
         requires { PortBounds self }
         ensures { result ≡ event_of chip self sample }
     {
-        let phase = self.phase;
-        let data = is_data(phase);
+        let data = is_data(self.phase);
         if takes_bit(self.csb, self.sclk, sample) {
             if !data | (self.bits < 7) {
                 return Event::Nothing;
             }
-            let in_use = self.in_use;
-            let bit = data_line(self.read, in_use.counting(chip).sdo_active, sample);
+            let bit = data_line(self.read, self.in_use.counting(chip).sdo_active, sample);
             let value = shift_in(self.in_use.lsb_first, self.value, self.bits, bit);
             return Event::Whole {
                 read: self.read,
@@ -50,7 +44,7 @@ impl Port {
         Event::Aborted {
             address: self.address,
             bits: self.bits,
-            data: data,
+            data,
         }
     }
 }

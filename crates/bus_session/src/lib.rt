@@ -23,7 +23,7 @@ pub const SDO: u8 = 3;
 // The bytes left where a run of an older chip streams.
 pub const STREAMS: u8 = 4;
 
-#[derive(Clone, Copy)]
+#[derive(Clone, Copy, Debug, PartialEq, Eq)]
 pub enum Phase {
     // With CSB high; or with CSB low, where an older chip passes bits over.
     Rest,
@@ -32,7 +32,7 @@ pub enum Phase {
 }
 
 // What the samples alone decide.
-#[derive(Clone, Copy)]
+#[derive(Clone, Copy, Debug, PartialEq, Eq)]
 pub struct Port {
     // The last levels of CSB and SCLK.
     pub csb: bool,
@@ -49,7 +49,7 @@ pub struct Port {
     pub left: u8,
 }
 
-#[derive(Clone, Copy)]
+#[derive(Clone, Copy, Debug, PartialEq, Eq)]
 pub struct Session {
     pub port: Port,
     // Whether the end of this frame moves the buffered registers: a whole byte of it went to one of them.
@@ -57,7 +57,7 @@ pub struct Session {
 }
 
 // What a sample completes.
-#[derive(Clone, Copy)]
+#[derive(Clone, Copy, Debug, PartialEq, Eq)]
 pub enum Event {
     Nothing,
     // A whole byte of data at an address.

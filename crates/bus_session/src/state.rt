@@ -5,42 +5,46 @@ ghost use Rattle.bus_session.specs.State.{fresh, with_bits, at_address, idle, re
 use crate::{Phase, Port};
 use bus_settings::{InUse, Settings, none_in_use};
 
-// In a phase, with nothing taken.
+// In a phase, with nothing taken. Field by field and not from a default: a new field has to be given here.
 fn fresh(csb: bool, sclk: bool, phase: Phase, settings: Settings, in_use: InUse) -> Port
     ensures { result ≡ fresh csb sclk phase settings in_use }
 {
     Port {
-        csb: csb,
-        sclk: sclk,
-        phase: phase,
+        csb,
+        sclk,
+        phase,
         bits: 0,
         value: 0,
         address: 0,
         read: false,
-        settings: settings,
-        in_use: in_use,
+        settings,
+        in_use,
         left: 0,
     }
 }
 
 impl Port {
     // With some bits of a piece taken.
-    fn with_bits(mut self, bits: u8, value: u16) -> Port
+    fn with_bits(self, bits: u8, value: u16) -> Port
         ensures { result ≡ with_bits self bits value }
     {
-        self.bits = bits;
-        self.value = value;
-        self
+        Port {
+            bits,
+            value,
+            ..self
+        }
     }
 
     // At an address, in a direction, with so many bytes left of a run that is counted.
-    fn at_address(mut self, address: u16, read: bool, left: u8) -> Port
+    fn at_address(self, address: u16, read: bool, left: u8) -> Port
         ensures { result ≡ at_address self address read left }
     {
-        self.address = address;
-        self.read = read;
-        self.left = left;
-        self
+        Port {
+            address,
+            read,
+            left,
+            ..self
+        }
     }
 }
 

@@ -68,7 +68,7 @@ fn entered(chip: Chip, value: u16, settings: Settings, in_use: InUse) -> Port
             settings,
             in_use,
         ),
-        Chip::Older { part: _, top } => {
+        Chip::Older { top, .. } => {
             let start = value % 0x2000;
             if (start as u64) <= top {
                 let left = (value / 0x2000 % 4 + 1) as u8;
@@ -85,7 +85,7 @@ pub fn runs_out(chip: Chip, left: u8, address: u16, lsb_first: bool) -> bool
 {
     match chip {
         Chip::Newer => false,
-        Chip::Older { part: _, top } => {
+        Chip::Older { top, .. } => {
             if lsb_first {
                 return (left == 1) | ((address as u64) == top);
             }
@@ -180,20 +180,14 @@ impl Port {
             return starting(self.sclk, settings);
         }
         if takes_bit {
-            let phase = self.phase;
-            match phase {
-                Phase::Rest => {
-                    return self;
-                }
-                Phase::Instruction => {
-                    return self.with_instruction_bit(chip, bit_at(sample, SDIO));
-                }
+            return match self.phase {
+                Phase::Rest => self,
+                Phase::Instruction => self.with_instruction_bit(chip, bit_at(sample, SDIO)),
                 Phase::Data => {
-                    let in_use = self.in_use;
-                    let line = data_line(self.read, in_use.counting(chip).sdo_active, sample);
-                    return self.with_data_bit(chip, line);
+                    let sdo_active = self.in_use.counting(chip).sdo_active;
+                    self.with_data_bit(chip, data_line(self.read, sdo_active, sample))
                 }
-            }
+            };
         }
         if !csb_before & self.csb & !may_stall(self.left, self.bits) {
             return resting(self.sclk, settings);

@@ -62,8 +62,8 @@ unfolding with_data_bit
 returns-in-Data c =
     let a = c.args in
     let e =
-    c.data_line-line.ensures
-    ∙ ap (λ (u : InUse). cond (a.self.read && u.sdo_active) (sdo_of a.sample) (sdio_of a.sample)) c.counting.ensures in
+    c.data_line.ensures
+    ∙ ap (λ (u : InUse). cond (a.self.read && u.sdo_active) (sdo_of a.sample) (sdio_of a.sample)) c.counting-sdo_active.ensures in
     no _ c.if-csb_before-self.false
     (yes _ c.if-takes_bit.true
     (c.with_data_bit.ensures ∙ ap (with_data_bit a.chip a.self) e
