@@ -1,14 +1,13 @@
 // Samples scanned eight at a time.
 ghost use Rattle.std.specs.Prelude.{◌≡◌, Bool, ◌+◌, ◌/◌, ◌^◌, ◌<◌, ◌≤◌, length};
 ghost use Rattle.std.specs.Int.Count.{count_trailing_zeros};
-ghost use Rattle.base_card.specs.Card.{IsCard};
 ghost use Rattle.bus_words.specs.Words.{word_of};
 ghost use Rattle.bus_words.specs.Lanes.{highs_in, nibble};
 ghost use Rattle.bus_trace.specs.Scan.{ProgressBounds, LowScanAfter, RisesAhead, BitsAfter, ScanAfter, shifted_three, shifted_four};
 
 use crate::high::past_high;
 use base_bits::{bit_at, shift_in};
-use base_card::turn_by;
+use base_card::Card;
 use bus_words::{four_bits, highs, level_at, levels, lows, rises, word_at};
 
 // SCLK low and high in turn in eight samples, with CSB low: each bit takes two samples.
@@ -68,25 +67,25 @@ fn bits_at(samples: &[u8], from: Progress, rises: u64, line: u8, lsb_first: bool
     }
 }
 
-// The value of some bits with four more, the highest of which came first; the card, which is lent, turns them where the lowest goes
+// The value of some bits with four more, the highest of which came first; the card turns them where the lowest goes
 // first.
-fn with_four(card: &[u8; 16], lsb_first: bool, value: u16, bits: u8, more: u8) -> u16
-    requires { (value < 2 ^ bits) × (bits + 4 ≤ 16) × (more < 16) × (IsCard card.now) }
+fn with_four(card: &Card, lsb_first: bool, value: u16, bits: u8, more: u8) -> u16
+    requires { (value < 2 ^ bits) × (bits + 4 ≤ 16) × (more < 16) }
     ensures { (a b c d : Bool) → more ≡ nibble a b c d → result ≡ shifted_four lsb_first value bits a b c d }
 {
     if lsb_first {
-        return value + ((turn_by(card, more * 16) as u16) << bits);
+        return value + ((card.turn(more * 16) as u16) << bits);
     }
     value * 16 + more as u16
 }
 
 // The same with the first three of them.
-fn with_three(card: &[u8; 16], lsb_first: bool, value: u16, bits: u8, more: u8) -> u16
-    requires { (value < 2 ^ bits) × (bits + 4 ≤ 16) × (more < 16) × (IsCard card.now) }
+fn with_three(card: &Card, lsb_first: bool, value: u16, bits: u8, more: u8) -> u16
+    requires { (value < 2 ^ bits) × (bits + 4 ≤ 16) × (more < 16) }
     ensures { (a b c d : Bool) → more ≡ nibble a b c d → result ≡ shifted_three lsb_first value bits a b c }
 {
     if lsb_first {
-        return value + (((turn_by(card, more * 16) % 8) as u16) << bits);
+        return value + (((card.turn(more * 16) % 8) as u16) << bits);
     }
     value * 8 + (more / 2) as u16
 }
@@ -207,14 +206,14 @@ fn take_words(samples: &[u8], from: Progress, line: u8, lsb_first: bool, last: u
 // Samples with CSB low, until the piece ends: the bits of a line at the rises of SCLK, up to so many. Where each takes two samples,
 // eight are taken at once, or seven before the last.
 fn take(
-    card: &[u8; 16],
+    card: &Card,
     samples: &[u8],
     from: Progress,
     line: u8,
     lsb_first: bool,
     last: u8,
 ) -> Progress
-    requires { (ProgressBounds samples.now last from) × (line < 4) × (IsCard card.now) }
+    requires { (ProgressBounds samples.now last from) × (line < 4) }
     ensures { LowScanAfter samples.now line lsb_first last from result }
 {
     let mut p = from;
@@ -251,7 +250,7 @@ fn take(
 
 // Samples up to one that ends the piece, or with CSB high up to one that lets it fall.
 pub fn next_stop(
-    card: &[u8; 16],
+    card: &Card,
     csb: bool,
     samples: &[u8],
     from: Progress,
@@ -259,7 +258,7 @@ pub fn next_stop(
     lsb_first: bool,
     last: u8,
 ) -> Progress
-    requires { (ProgressBounds samples.now last from) × (line < 4) × (IsCard card.now) }
+    requires { (ProgressBounds samples.now last from) × (line < 4) }
     ensures { ScanAfter samples.now csb line lsb_first last from result }
 {
     if csb {

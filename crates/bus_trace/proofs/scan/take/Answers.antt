@@ -31,7 +31,6 @@ with_four-value-requires c =
       s.small,
       omega (arith, c.if-last-p.false, s.short),
       word_nibble_lt _ c.word_at-first.result c.args.line c.four_bits.ensures,
-      c.requires.2,
     )
 
 pub overflow_add-p-in-loop-p : goal.overflow_add-p-in-loop-p
@@ -50,7 +49,6 @@ with_three-requires c =
       s.small,
       omega (arith, c.if-last-p.false, s.short),
       word_nibble_lt _ c.word_at-second.result c.args.line c.four_bits-more.ensures,
-      c.requires.2,
     )
 
 pub overflow_add-result : goal.overflow_add-result
@@ -79,7 +77,6 @@ with_four-requires c =
       s.small,
       omega (arith, c.if-last-p.false, s.short),
       word_nibble_lt _ c.word_at-second.result c.args.line c.four_bits-more.ensures,
-      c.requires.2,
     )
 
 pub overflow_add-p-in-loop-p-3 : goal.overflow_add-p-in-loop-p-3

@@ -11,18 +11,18 @@ use Rattle.bus_trace.proofs.scan.with_four.Goals as goal
 
 pub overflow_add-result : goal.overflow_add-result
 overflow_add-result c =
-    let small : c.turn_by.result < 16 =
-    omega (arith, c.turn_by.ensures, turned_lt c.args.more c.requires.2) in
+    let small : c.turn.result < 16 =
+    omega (arith, c.turn.ensures, turned_lt c.args.more c.requires.2) in
     rw (shl_exact 4 c.args.bits 16 small (omega (arith, c.requires.1)))
-    (record { fits = above_fits c.turn_by.result c.args.value c.args.bits small c.requires.0 c.requires.1 })
+    (record { fits = above_fits c.turn.result c.args.value c.args.bits small c.requires.0 c.requires.1 })
 
 pub returns-then-lsb_first : goal.returns-then-lsb_first
 returns-then-lsb_first c =
-    let small : c.turn_by.result < 16 =
-    omega (arith, c.turn_by.ensures, turned_lt c.args.more c.requires.2) in
+    let small : c.turn.result < 16 =
+    omega (arith, c.turn.ensures, turned_lt c.args.more c.requires.2) in
     λ w x y z e.
     ap (λ (k : ℕ). c.args.value + k) (shl_exact 4 c.args.bits 16 small (omega (arith, c.requires.1)))
-    ∙ ap (λ (k : ℕ). c.args.value + k * 2 ^ c.args.bits) (c.turn_by.ensures ∙ ap (λ (k : ℕ). turned 8 (k * 16)) e)
+    ∙ ap (λ (k : ℕ). c.args.value + k * 2 ^ c.args.bits) (c.turn.ensures ∙ ap (λ (k : ℕ). turned 8 (k * 16)) e)
     ∙ low_four c.args.value c.args.bits w x y z
     ∙ ap (λ (l : Bool). shifted_four l c.args.value c.args.bits w x y z) (sym c.if-lsb_first.true)
 
