@@ -2,12 +2,12 @@
 #![tactic(auto)]
 
 ghost use Rattle.std.specs.Prelude.{◌≡◌, ◌^◌, ltb};
-ghost use Rattle.bus_session.specs.State.{is_rest, length_good, may_arm, sound_port, sound_session};
+ghost use Rattle.bus_session.specs.State.{length_good, may_arm, sound_port, sound_session};
 ghost use Rattle.bus_soundness.specs.Opened.{opened_session};
 
 use base_chip::{Chip, is_newer};
 use bus_session::{Phase, Port, STREAMS, Session, is_counted, may_stall, resting};
-use bus_settings::all_clear;
+use bus_settings::{all_clear, none_in_use};
 
 // The session as opening leaves it.
 pub fn opened() -> Session
@@ -35,7 +35,7 @@ fn length_good(chip: Chip, left: u8, address: u16) -> bool
 {
     match chip {
         Chip::Newer => left == 0,
-        Chip::Older { part: _, top } => {
+        Chip::Older { top, .. } => {
             (is_counted(left) | (left == STREAMS)) & ((address as u64) <= top)
         }
     }
@@ -45,8 +45,7 @@ fn length_good(chip: Chip, left: u8, address: u16) -> bool
 fn sound_port(chip: Chip, port: Port) -> bool
     ensures { result ≡ sound_port chip port }
 {
-    let phase = port.phase;
-    match phase {
+    match port.phase {
         Phase::Rest => {
             (port.csb | !is_newer(chip))
                 & (port.bits == 0)
@@ -54,10 +53,7 @@ fn sound_port(chip: Chip, port: Port) -> bool
                 & (port.address == 0)
                 & !port.read
                 & (port.left == 0)
-                & !port.in_use.lsb_first
-                & !port.in_use.ascending
-                & !port.in_use.sdo_active
-                & !port.in_use.single_instruction
+                & (port.in_use == none_in_use())
         }
         Phase::Instruction => {
             !port.csb
@@ -77,29 +73,17 @@ fn sound_port(chip: Chip, port: Port) -> bool
     }
 }
 
-// Whether the phase is rest.
-fn is_rest(phase: Phase) -> bool
-    ensures { result ≡ is_rest phase }
-{
-    match phase {
-        Phase::Rest => true,
-        Phase::Instruction => false,
-        Phase::Data => false,
-    }
-}
-
 // Whether a session with this port may be armed: inside a frame of a newer chip.
 fn may_arm(chip: Chip, port: Port) -> bool
     ensures { result ≡ may_arm chip port }
 {
-    let phase = port.phase;
-    is_newer(chip) & !is_rest(phase)
+    is_newer(chip) & matches!(port.phase, Phase::Instruction | Phase::Data)
 }
 
 // Whether the session is sound: its port is, and it is armed only where it may be.
 pub fn sound(chip: Chip, session: Session) -> bool
     ensures { result ≡ sound_session chip session }
 {
-    let port = session.port;
-    sound_port(chip, port) & (!session.armed | may_arm(chip, port))
+    let Session { port, armed } = session;
+    sound_port(chip, port) & (!armed | may_arm(chip, port))
 }
