@@ -1,14 +1,15 @@
 -- A session goes to bytes and back unchanged, and so do bytes that are a session.
-use Prim.Native.Nat.{ℕ, zero, suc, ◌+◌, ◌/◌, ◌%◌, ◌<◌}
+use Prim.Native.Nat.{ℕ, zero, suc, ◌+◌, ◌/◌, ◌%◌, ◌<◌, ◌≤◌}
 use mathlib.Core.Path.{◌≡◌, refl, sym, ◌∙◌, ap}
-use mathlib.Core.Bool.{Bool, true, false}
+use mathlib.Core.Bool.{Bool, true, false, ◌&&◌}
 use mathlib.Core.List.{List, [], ◌∷◌}
 use native.Mathlib.Omega.{arith}
 use lib.Dec.{eqb, leb}
-use lib.ListN.{length, get_or, drop, drop_of_length-le}
+use lib.ListN.{length, get_or, take, drop, drop_of_length-le}
 use lib.Seq.{drop-cons}
 use borrow.Author.Tests.{eqb-true, leb-true}
 use mir.Val.{bool_byte}
+use Rattle.std.specs.List.{list_all}
 use Rattle.base_bits.specs.Bits.{bit_of}
 use Rattle.base_bits.specs.Tests.{every}
 use Rattle.base_bits.proofs.Cases.{every_true}
@@ -71,6 +72,20 @@ high_back high low h = omega arith
 
 low_back : (high low : ℕ) → low < 256 → word_of_bytes high low % 256 ≡ low
 low_back high low h = omega arith
+
+-- a number of 16 bits has a high byte
+pub high_small : (x : ℕ) → x < 65536 → x / 256 % 256 ≡ x / 256
+high_small x h = omega arith
+
+-- whether each of n bytes of a list is a flag, from place i on
+abbrev pub flags_from : ℕ → List ℕ → ℕ → List Bool
+flags_from zero b i = []
+flags_from (suc n) b i = leb (get_or b i 0) 1 ∷ flags_from n b (suc i)
+
+pub flags_are : (n : ℕ) (b : List ℕ) (i : ℕ) → i + n ≤ length b → list_all (λ x. leb x 1) (take n (drop i b)) ≡ every (flags_from n b i)
+unfolding every
+flags_are zero b i h = refl
+flags_are (suc n) b i h = rw (drop-cons b i 0 (omega arith)) (ap (λ (t : Bool). leb (get_or b i 0) 1 && t) (flags_are n b (suc i) (omega arith)))
 
 -- n bytes of a list from place i on
 by_byte : ℕ → List ℕ → ℕ → List ℕ

@@ -5,4 +5,4 @@ use Rattle.bus_session_bytes.proofs.session_of.Goals as goal
 pub returns : goal.returns
 unfolding session_of
 returns c =
-    rw (c.word-2.ensures, c.word.ensures, c.phase_of.ensures)
+    rw (c.from_be_bytes-2.ensures, c.from_be_bytes.ensures, c.phase_of.ensures)
