@@ -10,10 +10,9 @@ pub fn put_defaults(map: &[u8], bank: &mut [u8])
     requires { length bank.old ≡ count_of map.now }
     ensures { bank.new ≡ defaults_from map.now 0 (count_of map.now) }
 {
-    let mut i: usize = 0;
-    while i < bank.len() {
-        bank[i] = entry_at(map, bank.len(), i).default;
-        i += 1;
+    let count = bank.len();
+    for (i, byte) in bank.iter_mut().enumerate() {
+        *byte = entry_at(map, count, i).default;
     }
 }
 
@@ -31,11 +30,10 @@ pub fn transfer(map: &[u8], active: &mut [u8], buffer: &[u8])
     requires { Mapped map.now (banks active.old buffer.now) }
     ensures { banks active.new buffer.now ≡ transferred map.now (banks active.old buffer.now) }
 {
-    let mut i: usize = 0;
-    while i < active.len() {
-        if entry_at(map, active.len(), i).kind == BUFFERED {
-            active[i] = buffer[i];
+    let count = active.len();
+    for (i, byte) in active.iter_mut().enumerate() {
+        if entry_at(map, count, i).kind == BUFFERED {
+            *byte = buffer[i];
         }
-        i += 1;
     }
 }

@@ -1,5 +1,6 @@
 -- `put_defaults` meets its contract: the loop stores each default, and the rest is the defaults from there on.
 use mathlib.Core.Path.{ap, ◌∙◌}
+use native.Mathlib.Omega.{arith}
 use Rattle.reg_banks.specs.Banks.{defaults_from}
 use Rattle.reg_banks.proofs.Filling.{filling_begun, stored, ended}
 use Rattle.reg_banks.proofs.Laws.{defaults_rule}
@@ -11,10 +12,11 @@ loop-i-init c = filling_begun _ _
 pub loop-i-preserved : goal.loop-i-preserved
 loop-i-preserved c =
     let inv = c.loop-i.invariant in
-    stored (defaults_rule _) inv _ c.loop-i-test.true
-    (rw (c.entry_at.ensures, inv.same, c.requires))
+    stored (defaults_rule _) inv _ (omega (arith, inv.same, c.loop-i-test.true))
+    (rw (c.entry_at.ensures, c.requires))
 
 pub returns : goal.returns
 returns c =
-    ended (defaults_rule _) c.loop-i.invariant c.loop-i-test.false
+    let inv = c.loop-i.invariant in
+    ended (defaults_rule _) inv (omega (arith, inv.same, c.loop-i-test.false))
     ∙ ap (defaults_from c.args.map.now 0) c.requires

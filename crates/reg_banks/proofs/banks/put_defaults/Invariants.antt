@@ -1,11 +1,6 @@
-use Prim.Native.Nat.{◌-◌}
-use lib.ListN.{length}
 use Rattle.reg_banks.proofs.Filling.{Filling}
 use Rattle.reg_banks.proofs.Laws.{defaults_over}
 use Rattle.reg_banks.proofs.banks.put_defaults.Given as goal
 
 abbrev pub invariant-loop-i : goal.invariant-loop-i
 invariant-loop-i l = Filling (defaults_over l.map) l.initial.bank l.bank l.i
-
-abbrev pub decreases-loop-i : goal.decreases-loop-i
-decreases-loop-i l = length l.initial.bank - l.i
