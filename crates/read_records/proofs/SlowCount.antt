@@ -1,12 +1,12 @@
 -- Counting the writes that ask for slow: what is counted, with the records that are left, is the whole.
-use mathlib.Core.Path.{◌≡◌, refl, sym, ◌∙◌, ap}
+use mathlib.Core.Path.{◌≡◌, refl, ap}
 use mathlib.Core.Bool.{Bool, true, false, ◌&&◌}
-use mathlib.Core.List.{List}
-use Prim.Native.Nat.{ℕ, zero, suc, ◌+◌, ◌-◌, ◌*◌, ◌/◌, ◌%◌, ◌<◌, ◌≤◌}
+use mathlib.Core.List.{List, ◌++◌}
+use Prim.Native.Nat.{ℕ, zero, suc, ◌+◌, ◌*◌, ◌/◌, ◌%◌, ◌<◌, ◌≤◌}
 use native.Mathlib.Omega.{arith}
 use native.Mathlib.Nat.{zero-add}
-use lib.ListN.{drop}
-use lib.Seq.{drop-drop}
+use lib.ListN.{drop, length, length-append, get_or-append}
+use lib.Seq.{drop_at}
 use lib.Dec.{eqb}
 use mir.Val.{bool_byte}
 use Rattle.base_bits.specs.Bits.{bit_at, bit_of}
@@ -16,7 +16,7 @@ use Rattle.base_chip.specs.Registers.{configuration_b}
 use Rattle.bus_settings.specs.Bits.{slow_bit}
 use Rattle.reg_write.specs.declared.Written.{Written}
 use Rattle.read_records.specs.Records.{write_record, read_record, abort_record}
-use Rattle.read_records.specs.Slow.{asks_slow, slow_in}
+use Rattle.read_records.specs.Slow.{asks_slow, slow_in, slow_of}
 
 -- a write asks for slow by its address and its byte; a read or an abort never does
 pub write_asks : (a v : ℕ) (w : Written) → asks_slow (write_record a v w) ≡ (eqb a configuration_b && bit_at v slow_bit)
@@ -49,48 +49,33 @@ pub flag_most : (b : Bool) → bool_byte b ≤ 1
 flag_most true = omega arith
 flag_most false = omega arith
 
--- n of `all` records are looked at
-pub record SlowCounting (records : List ℕ) (all slow n : ℕ) : Type 0 where
-  pub within : n ≤ all
-  pub few : slow ≤ n
-  pub rest : slow + slow_in (all - n) (drop (n * record_size) records) ≡ slow_in all records
+-- a record, and those after it
+slow_more : (r rest : List ℕ) → length r ≡ record_size → slow_of (r ++ rest) ≡ bit_of (asks_slow r) + slow_of rest
+unfolding slow_in asks_slow
+slow_more r rest size =
+    let one : length (r ++ rest) / record_size ≡ suc (length rest / record_size) = omega (arith, length-append r rest) in
+    let first = get_or-append r rest 0 0 (omega arith) in
+    let second = get_or-append r rest 0 1 (omega arith) in
+    let third = get_or-append r rest 0 2 (omega arith) in
+    let fourth = get_or-append r rest 0 3 (omega arith) in
+    rw (one, first, second, third, fourth, drop_at r rest record_size size)
 
-pub slow_counting_begun : (records : List ℕ) (all : ℕ) → SlowCounting records all 0 0
-slow_counting_begun records all = record { within = omega arith; few = omega arith; rest = rw zero-add (ap (λ (k : ℕ). slow_in k records) e) }
-  where
-    e : all - 0 ≡ all
-    e = omega arith
+-- what is counted of records, with the rest that is not looked at
+pub record SlowCounting (records rest : List ℕ) (slow : ℕ) : Type 0 where
+  pub few : slow + length rest / record_size ≤ length records
+  pub total : slow + slow_of rest ≡ slow_of records
 
-module _ {records : List ℕ} {all slow n : ℕ} (k : SlowCounting records all slow n) where
-  pub turned : {asks : Bool} → n < all → asks ≡ asks_slow (drop (n * record_size) records) → SlowCounting records all (slow + bool_byte asks) (n + 1)
-  unfolding slow_in
-  turned {asks} h e = record {
-    within = omega arith;
-    few = omega (arith, k.few, flag_most asks);
-    rest = rw (e, flag_number (asks_slow (drop (n * record_size) records))) (omega (arith, one_more_counted, k.rest));
+pub slow_counting_begun : (records : List ℕ) → SlowCounting records records 0
+slow_counting_begun records = record { few = omega arith; total = rw zero-add }
+
+module _ {records whole : List ℕ} {slow : ℕ} (k : SlowCounting records whole slow) where
+  pub turned : (r rest : List ℕ) {asks : Bool} → length r ≡ record_size → whole ≡ r ++ rest → asks ≡ asks_slow r
+      → SlowCounting records rest (slow + bool_byte asks)
+  turned r rest {asks} size parts e = record {
+    few = omega (arith, k.few, ap length parts, length-append r rest, flag_most asks);
+    total = omega (arith, k.total, ap slow_of parts, slow_more r rest size, ap bit_of e, flag_number asks);
   }
-    where
-      place : (n + 1) * record_size ≡ n * record_size + record_size
-      place = omega arith
 
-      left : drop ((n + 1) * record_size) records ≡ drop record_size (drop (n * record_size) records)
-      left = ap (λ (i : ℕ). drop i records) place ∙ sym (drop-drop record_size (n * record_size) records)
-
-      one : suc (all - (n + 1)) ≡ all - n
-      one = omega arith
-
-      one_more_counted : bit_of (asks_slow (drop (n * record_size) records)) + slow_in (all - (n + 1)) (drop ((n + 1) * record_size) records)
-          ≡ slow_in (all - n) (drop (n * record_size) records)
-      one_more_counted =
-          ap (λ (l : List ℕ). bit_of (asks_slow (drop (n * record_size) records)) + slow_in (all - (n + 1)) l) left
-          ∙ ap (λ (j : ℕ). slow_in j (drop (n * record_size) records)) one
-
-  pub ended : all ≤ n → slow ≡ slow_in all records
+  pub ended : length whole < record_size → slow ≡ slow_of records
   unfolding slow_in
-  ended h = sum
-    where
-      none : all - n ≡ 0
-      none = omega arith
-
-      sum : slow ≡ slow_in all records
-      sum = omega (arith, ap (λ (j : ℕ). slow_in j (drop (n * record_size) records)) none, k.rest)
+  ended h = let none : length whole / record_size ≡ 0 = omega arith in omega (arith, k.total, ap (λ (n : ℕ). slow_in n whole) none)

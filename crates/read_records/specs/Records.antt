@@ -9,6 +9,14 @@ use Rattle.reg_banks.specs.Banks.{Banks}
 use Rattle.reg_banks.specs.Read.{due_byte}
 use Rattle.reg_write.specs.declared.Written.{Written}
 use Rattle.reg_write.specs.Write.{written_of}
+use Rattle.read_records.specs.declared.RecordKind.{RecordKind}
+use Rattle.read_records.specs.declared.RecordKind.TheVariants.{Write, Read, Abort}
+
+-- the number of a record's kind
+abbrev pub kind_number : RecordKind → ℕ
+kind_number Write = 1
+kind_number Read = 2
+kind_number Abort = 3
 
 -- kind, address (big-endian), and three bytes by kind; document 02, Ask 8: then the bits that moved
 abbrev pub record_bytes : ℕ → ℕ → ℕ → ℕ → ℕ → ℕ → List ℕ

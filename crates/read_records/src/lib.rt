@@ -6,7 +6,7 @@ ghost use Rattle.std.proofs.lemmas.List.Edits.{sets};
 ghost use Rattle.base_sizes.specs.Sizes.{record_size};
 ghost use Rattle.bus_session.specs.declared.Event.TheVariants.{Whole};
 ghost use Rattle.reg_banks.specs.Banks.{banks};
-ghost use Rattle.read_records.specs.Records.{records_in, record_bytes, write_record, read_record, abort_record};
+ghost use Rattle.read_records.specs.Records.{kind_number, records_in, record_bytes, write_record, read_record, abort_record};
 ghost use Rattle.reg_write.specs.Write.{touches_on};
 ghost use Rattle.reg_write.specs.Rise.{moves_at_rise};
 ghost use Rattle.read_records.specs.Promises.{end_of, touched_on, EventBefore, EventAfter};
@@ -21,11 +21,21 @@ use reg_touched::touch;
 use reg_write::{Written, armed_on, end_frame, touches};
 pub use slow::count_slow;
 
-const WRITE: u8 = 1;
+// What a record is of: the number that is its first byte.
+#[derive(Clone, Copy)]
+enum RecordKind {
+    Write = 1,
+    Read = 2,
+    Abort = 3,
+}
 
-const READ: u8 = 2;
+impl From<RecordKind> for u8 {
+    ghost from_gives = { λ kind number. number ≡ kind_number kind };
 
-const ABORT: u8 = 3;
+    fn from(kind: RecordKind) -> u8 {
+        kind as u8
+    }
+}
 
 // How many records an event gives.
 pub fn records_in(event: Event) -> usize
@@ -33,16 +43,7 @@ pub fn records_in(event: Event) -> usize
 {
     match event {
         Event::Nothing => 0,
-        Event::Whole {
-            read: _,
-            address: _,
-            byte: _,
-        } => 1,
-        Event::Aborted {
-            address: _,
-            bits: _,
-            data: _,
-        } => 1,
+        Event::Whole { .. } | Event::Aborted { .. } => 1,
         Event::Ended => 0,
     }
 }
@@ -51,7 +52,7 @@ pub fn records_in(event: Event) -> usize
 fn put_record(
     records: &mut [u8],
     at: usize,
-    kind: u8,
+    kind: RecordKind,
     address: u16,
     third: u8,
     fourth: u8,
@@ -59,15 +60,12 @@ fn put_record(
     moved: u8,
 )
     requires { at + record_size ≤ length records.old }
-    ensures { records.new ≡ sets records.old at (record_bytes kind address third fourth fifth moved) }
+    ensures { records.new ≡ sets records.old at (record_bytes (kind_number kind) address third fourth fifth moved) }
 {
-    records[at] = kind;
-    records[at + 1] = (address / 256) as u8;
-    records[at + 2] = (address % 256) as u8;
-    records[at + 3] = third;
-    records[at + 4] = fourth;
-    records[at + 5] = fifth;
-    records[at + 6] = moved;
+    let [high, low] = address.to_be_bytes();
+    let kind = u8::from(kind);
+    let bytes = [kind, high, low, third, fourth, fifth, moved];
+    records[at..at + RECORD].copy_from_slice(&bytes);
 }
 
 // Puts the record of a write at a place: the byte written, and what the write answered.
@@ -78,7 +76,7 @@ pub fn put_write(records: &mut [u8], at: usize, address: u16, byte: u8, written:
     put_record(
         records,
         at,
-        WRITE,
+        RecordKind::Write,
         address,
         byte,
         written.byte,
@@ -92,11 +90,8 @@ pub fn put_read(records: &mut [u8], at: usize, address: u16, due: u8, line: u8)
     requires { at + record_size ≤ length records.old }
     ensures { records.new ≡ sets records.old at (read_record address due line) }
 {
-    if due == line {
-        put_record(records, at, READ, address, due, line, 0, 0);
-    } else {
-        put_record(records, at, READ, address, due, line, 1, 0);
-    }
+    let other = u8::from(due != line);
+    put_record(records, at, RecordKind::Read, address, due, line, other, 0);
 }
 
 // Puts the record of an abort at a place.
@@ -104,11 +99,8 @@ pub fn put_abort(records: &mut [u8], at: usize, address: u16, bits: u8, in_data:
     requires { at + record_size ≤ length records.old }
     ensures { records.new ≡ sets records.old at (abort_record address bits in_data) }
 {
-    if in_data {
-        put_record(records, at, ABORT, address, bits, 1, 0, 0);
-    } else {
-        put_record(records, at, ABORT, address, bits, 0, 0, 0);
-    }
+    let part = u8::from(in_data);
+    put_record(records, at, RecordKind::Abort, address, bits, part, 0, 0);
 }
 
 // Where an event leads: the place after its record, and whether the session is armed.
@@ -150,10 +142,7 @@ pub fn take_end(
 {
     end_frame(chip, map, active, buffer, armed);
     if bits == 0 {
-        return EventOutcome {
-            at: at,
-            armed: false,
-        };
+        return EventOutcome { at, armed: false };
     }
     put_abort(records, at, address, bits, in_data);
     EventOutcome {
@@ -190,7 +179,7 @@ pub fn take_byte(
         put_read(records, at, address, due, byte);
         return EventOutcome {
             at: at + RECORD,
-            armed: armed,
+            armed,
         };
     }
     let written = reg_write::write(chip, map, active, buffer, settings, address, byte);
@@ -199,6 +188,6 @@ pub fn take_byte(
     let armed = armed_on(moves, armed, written.effect);
     EventOutcome {
         at: at + RECORD,
-        armed: armed,
+        armed,
     }
 }

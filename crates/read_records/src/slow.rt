@@ -3,7 +3,7 @@ ghost use Rattle.std.specs.Prelude.{◌≡◌, ◌≤◌, length};
 ghost use Rattle.base_sizes.specs.Sizes.{record_size};
 ghost use Rattle.read_records.specs.Slow.{asks_slow, slow_of};
 
-use crate::WRITE;
+use crate::RecordKind;
 use base_bits::bit_at;
 use base_chip::CONFIGURATION_B;
 use base_sizes::RECORD;
@@ -14,20 +14,19 @@ fn asks_slow(bytes: &[u8]) -> bool
     requires { record_size ≤ length bytes.now }
     ensures { result ≡ asks_slow bytes.now }
 {
-    let address = bytes[1] as u16 * 256 + bytes[2] as u16;
-    (bytes[0] == WRITE) & (address == CONFIGURATION_B) & bit_at(bytes[3], SLOW_BIT)
+    let address = u16::from_be_bytes([bytes[1], bytes[2]]);
+    (bytes[0] == RecordKind::Write as u8)
+        & (address == CONFIGURATION_B)
+        & bit_at(bytes[3], SLOW_BIT)
 }
 
 // How many of the records are such writes.
 pub fn count_slow(records: &[u8]) -> usize
     ensures { result ≡ slow_of records.now }
 {
-    let all = records.len() / RECORD;
     let mut slow = 0;
-    let mut n = 0;
-    while n < all {
-        slow += asks_slow(&records[n * RECORD..]) as usize;
-        n += 1;
+    for record in records.chunks_exact(RECORD) {
+        slow += asks_slow(record) as usize;
     }
     slow
 }
