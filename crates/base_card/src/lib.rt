@@ -4,7 +4,12 @@
 ghost use Rattle.std.specs.Prelude.{◌≡◌, cond};
 ghost use Rattle.base_card.specs.Card.{turned, IsCard, is_mirror};
 
-// The card: the nibbles 0 to F in order, the bits of each the other way round. Who turns many bytes makes one card and lends it.
+// The card: the nibbles 0 to F in order, the bits of each the other way round.
+const CARD: [u8; 16] = [
+    0x0, 0x8, 0x4, 0xC, 0x2, 0xA, 0x6, 0xE, 0x1, 0x9, 0x5, 0xD, 0x3, 0xB, 0x7, 0xF,
+];
+
+// The card at hand. A const that is used is built anew each time: who turns many bytes makes one of these and lends it.
 #[derive(Clone, Copy)]
 pub struct Card {
     nibbles: [u8; 16],
@@ -13,11 +18,7 @@ pub struct Card {
 
 impl Card {
     pub fn new() -> Card {
-        Card {
-            nibbles: [
-                0x0, 0x8, 0x4, 0xC, 0x2, 0xA, 0x6, 0xE, 0x1, 0x9, 0x5, 0xD, 0x3, 0xB, 0x7, 0xF,
-            ],
-        }
+        Card { nibbles: CARD }
     }
 
     // A byte, its bits the other way round: each nibble as the card has it, and the two exchanged.
