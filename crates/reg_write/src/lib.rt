@@ -16,7 +16,7 @@ pub use rise::{armed_on, end_frame, moves_at_rise};
 pub use rule::effect_of;
 
 // The numbers of the effects: none; the active byte of a register was written; its buffer byte was; a control register; a transfer; a
-// soft reset.
+// soft reset. Numbers and no enum: a record carries them to C, and the theorems on records are of these numbers.
 const EFFECT_NONE: u8 = 0;
 
 const EFFECT_ACTIVE: u8 = 1;
@@ -30,7 +30,7 @@ const EFFECT_TRANSFER: u8 = 4;
 const EFFECT_RESET: u8 = 5;
 
 // What a write does to the registers.
-#[derive(Clone, Copy)]
+#[derive(Clone, Copy, Debug, PartialEq, Eq)]
 pub enum Effect {
     Nothing,
     // The active byte at an address becomes this one, or the buffer byte if the register is buffered; these bits of it differ from the
@@ -52,7 +52,7 @@ pub enum Effect {
 }
 
 // What the write of one register answers: the byte to record, the number of the effect, and the bits of the byte that moved.
-#[derive(Clone, Copy)]
+#[derive(Clone, Copy, Debug, PartialEq, Eq)]
 pub struct Written {
     pub byte: u8,
     pub effect: u8,
@@ -67,7 +67,7 @@ pub fn touches(effect: u8) -> bool
 }
 
 // The bytes of one register in both stages.
-#[derive(Clone, Copy)]
+#[derive(Clone, Copy, Debug, PartialEq, Eq)]
 pub struct Stages {
     pub active: u8,
     pub buffer: u8,
@@ -96,7 +96,7 @@ fn untaken(byte: u8) -> Written
     ensures { result ≡ written byte 0 0 }
 {
     Written {
-        byte: byte,
+        byte,
         effect: EFFECT_NONE,
         moved: 0,
     }
@@ -117,7 +117,7 @@ fn control_answer(chip: Chip, settings: Settings, address: u16, v: u8, effect: u
     let after = before.after(chip, address, v);
     Written {
         byte: after.reading(chip, address),
-        effect: effect,
+        effect,
         moved: 0,
     }
 }
@@ -163,23 +163,21 @@ fn apply(map: &[u8], active: &mut [u8], buffer: &mut [u8], effect: Effect)
         ≡ applied map.now (banks active.old buffer.old) effect }
 {
     match effect {
-        Effect::Nothing => {}
+        Effect::Nothing | Effect::Control | Effect::Ignored => {}
         Effect::Byte {
             buffered,
             address,
             byte,
-            moved: _,
+            ..
         } => {
             put_byte(active, buffer, address as usize, buffered, byte);
         }
-        Effect::Control => {}
         Effect::Transfer => {
             transfer(map, active, buffer);
         }
         Effect::Reset => {
             reset(map, active, buffer);
         }
-        Effect::Ignored => {}
     }
 }
 
@@ -191,13 +189,13 @@ pub fn answer(chip: Chip, settings: Settings, address: u16, v: u8, effect: Effec
         Effect::Nothing => untaken(0),
         Effect::Byte {
             buffered,
-            address: _,
             byte,
             moved,
+            ..
         } => Written {
-            byte: byte,
+            byte,
             effect: one_of(buffered, EFFECT_BUFFER, EFFECT_ACTIVE),
-            moved: moved,
+            moved,
         },
         Effect::Control => control_answer(chip, settings, address, v, EFFECT_CONTROL),
         Effect::Transfer => control_answer(chip, settings, address, v, EFFECT_TRANSFER),

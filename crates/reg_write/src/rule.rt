@@ -44,9 +44,9 @@ pub fn effect_of(chip: Chip, register: Entry, stages: Stages, address: u16, v: u
         let old = one_of(buffered, stages.buffer, stages.active);
         let byte = merge(old, v, register.mask);
         return Effect::Byte {
-            buffered: buffered,
-            address: address,
-            byte: byte,
+            buffered,
+            address,
+            byte,
             moved: old ^ byte,
         };
     }

@@ -1,4 +1,5 @@
 -- `apply` meets its contract: one equation of the definition for each effect.
+use mathlib.Core.Logic.{inl, inr}
 use mathlib.Core.Path.{refl, sym, ◌∙◌}
 use Rattle.reg_write.specs.Write.{applied}
 use Rattle.reg_write.proofs.apply.Goals as goal
@@ -10,15 +11,11 @@ put_byte-requires c =
 
 pub returns-in-Nothing : goal.returns-in-Nothing
 unfolding applied
-returns-in-Nothing c = rw c.in-Nothing.is refl
+returns-in-Nothing c = elim c.in-Nothing.is [ inl e ↦ rw e refl | inr o ↦ elim o [ inl e ↦ rw e refl | inr e ↦ rw e refl ] ]
 
 pub returns-in-Byte : goal.returns-in-Byte
 unfolding applied
 returns-in-Byte c = rw c.in-Byte.is c.put_byte.ensures
-
-pub returns-in-Control : goal.returns-in-Control
-unfolding applied
-returns-in-Control c = rw c.in-Control.is refl
 
 pub returns-in-Transfer : goal.returns-in-Transfer
 unfolding applied
@@ -27,7 +24,3 @@ returns-in-Transfer c = rw c.in-Transfer.is c.transfer.ensures
 pub returns-in-Reset : goal.returns-in-Reset
 unfolding applied
 returns-in-Reset c = rw c.in-Reset.is c.reset.ensures
-
-pub returns-in-Ignored : goal.returns-in-Ignored
-unfolding applied
-returns-in-Ignored c = rw c.in-Ignored.is refl
