@@ -4,12 +4,10 @@ use mathlib.Core.Bool.{Bool, true, false}
 use mathlib.Core.List.{List}
 use Prim.Native.Nat.{ℕ, zero, suc, ◌+◌, ◌-◌, ◌*◌, ◌/◌, ◌%◌, ◌^◌, ◌<◌, ◌≤◌}
 use native.Mathlib.Omega.{arith}
-use native.Mathlib.Nat.{add-zero, add_comm, mul_assoc}
-use native.Mathlib.Numerals.{add-one}
+use native.Mathlib.Nat.{add-zero, add_assoc}
 use lib.Dec.{ltb}
 use lib.ListN.{length, get_or}
-use lib.Pow.{pow-add, shl_exact}
-use lib.Bits.{bit_or, or_shifted_r}
+use lib.Pow.{pow-add}
 use borrow.Author.Tests.{ltb-true, ltb-false}
 use Rattle.bus_words.specs.Words.{word_of, High}
 use Rattle.bus_words.specs.Lanes.{clock_of, lows_in, level_in, rises_in}
@@ -20,10 +18,6 @@ power : (k : ℕ) → 2 ^ (8 * suc k) ≡ 2 ^ (8 * k) * 256
 power k =
     let e : 8 * suc k ≡ 8 * k + 8 = omega arith in
     ap (λ (n : ℕ). 2 ^ n) e ∙ pow-add 2 (8 * k) 8
-
--- a sample put above a number of k bytes
-or_above : (v x k : ℕ) → v < 2 ^ (8 * k) → x < 256 → k < 8 → bit_or v (x * 2 ^ (8 * k) % 18446744073709551616) ≡ v + x * 2 ^ (8 * k)
-or_above v x k hv hx hk = rw (shl_exact 8 (8 * k) 64 hx (omega arith)) (or_shifted_r x (8 * k) v hv ∙ add_comm (x * 2 ^ (8 * k)) v)
 
 -- words from a sample on, of which each has one bit at first and the word from the next sample on above it
 module _ (word : ℕ → ℕ → ℕ) (bit : ℕ → ℕ) (first : (i k : ℕ) → word i (suc k) % 2 ≡ bit i) (rest : (i k : ℕ) → word i (suc k) / 256 ≡ word (i + 1) k) where
@@ -65,43 +59,13 @@ module _ (xs : List ℕ) (bytes : (k : ℕ) → get_or xs k 0 < 256) where
   word_lt i zero = omega arith
   word_lt i (suc k) = rw (power k) (omega (arith, word_lt (i + 1) k, bytes i))
 
-  -- one sample more stands above the others
-  word_more : (i k : ℕ) → word_of xs i (suc k) ≡ word_of xs i k + get_or xs (i + k) 0 * 2 ^ (8 * k)
-  unfolding word_of
-  word_more i zero = rw add-zero (omega arith)
-  word_more i (suc k) =
-      let e : i + 1 + k ≡ i + suc k = omega arith in
-      let p : get_or xs (i + suc k) 0 * (2 ^ (8 * k) * 256) ≡ get_or xs (i + suc k) 0 * 2 ^ (8 * k) * 256 = sym (mul_assoc _ _ 256) in
-      rw (power k, p) (omega (arith, rw e at (word_more (i + 1) k)))
-
-  pub word_turn : (i k word : ℕ) → word ≡ word_of xs i k → k < 8
-      → bit_or word (get_or xs (i + k) 0 * 2 ^ (8 * k) % 18446744073709551616) ≡ word_of xs i (k + 1)
-  word_turn i k word e h = rw (e, add-one, word_more i k) (or_above (word_of xs i k) (get_or xs (i + k) 0) k (word_lt i k) (bytes (i + k)) h)
-
-  first_sample : (i : ℕ) → get_or xs i 0 ≡ word_of xs i 1
-  unfolding word_of
-  first_sample i = omega arith
-
+  -- eight samples, each worth 256 times the one before
   pub word_of_eight : (i : ℕ)
-      → bit_or
-      (bit_or
-      (bit_or
-      (bit_or
-      (bit_or (bit_or (bit_or (get_or xs i 0) (get_or xs (i + 1) 0 * 2 ^ 8 % 18446744073709551616)) (get_or xs (i + 2) 0 * 2 ^ 16 % 18446744073709551616))
-      (get_or xs (i + 3) 0 * 2 ^ 24 % 18446744073709551616))
-      (get_or xs (i + 4) 0 * 2 ^ 32 % 18446744073709551616))
-      (get_or xs (i + 5) 0 * 2 ^ 40 % 18446744073709551616))
-      (get_or xs (i + 6) 0 * 2 ^ 48 % 18446744073709551616))
-      (get_or xs (i + 7) 0 * 2 ^ 56 % 18446744073709551616)
+      → get_or xs i 0 + get_or xs (i + 1) 0 * 256 ^ 1 + get_or xs (i + 2) 0 * 256 ^ 2 + get_or xs (i + 3) 0 * 256 ^ 3
+      + get_or xs (i + 4) 0 * 256 ^ 4 + get_or xs (i + 5) 0 * 256 ^ 5 + get_or xs (i + 6) 0 * 256 ^ 6 + get_or xs (i + 7) 0 * 256 ^ 7
       ≡ word_of xs i 8
-  word_of_eight i =
-      word_turn i 7 _
-      (word_turn i 6 _
-      (word_turn i 5 _
-      (word_turn i 4 _ (word_turn i 3 _ (word_turn i 2 _ (word_turn i 1 _ (first_sample i) (omega arith)) (omega arith)) (omega arith)) (omega arith))
-      (omega arith))
-      (omega arith))
-      (omega arith)
+  unfolding word_of
+  word_of_eight i = simp add_assoc (omega arith)
 
   -- the first sample, and the others
   pub word_first : (i k : ℕ) → word_of xs i (suc k) % 256 ≡ get_or xs i 0

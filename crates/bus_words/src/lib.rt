@@ -23,14 +23,16 @@ pub fn word_at(samples: &[u8], at: usize) -> u64
     requires { at + 8 ≤ length samples.now }
     ensures { result ≡ word_of samples.now at 8 }
 {
-    (samples[at] as u64)
-        | ((samples[at + 1] as u64) << 8)
-        | ((samples[at + 2] as u64) << 16)
-        | ((samples[at + 3] as u64) << 24)
-        | ((samples[at + 4] as u64) << 32)
-        | ((samples[at + 5] as u64) << 40)
-        | ((samples[at + 6] as u64) << 48)
-        | ((samples[at + 7] as u64) << 56)
+    u64::from_le_bytes([
+        samples[at],
+        samples[at + 1],
+        samples[at + 2],
+        samples[at + 3],
+        samples[at + 4],
+        samples[at + 5],
+        samples[at + 6],
+        samples[at + 7],
+    ])
 }
 
 // CSB and SCLK, in each of eight samples.
