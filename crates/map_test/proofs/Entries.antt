@@ -12,33 +12,23 @@ use Rattle.map_test.specs.MapTest.{Formed, kind_rule, place_rule, entry_good, en
 use Rattle.map_test.proofs.PlaceKinds.{beyond_free}
 
 -- what a loop from first to last has found before address a, with the rest of the entries, is the whole
-pub record Tested (kinds m : List ℕ) (first last : ℕ) (good : Bool) (a : ℕ) : Type 0 where
-  pub from : first ≤ a
-  pub within : a ≤ last
-  pub so_far : (good && entries_good kinds m a (last - a)) ≡ entries_good kinds m first (last - first)
+abbrev pub Tested : List ℕ → List ℕ → ℕ → ℕ → Bool → ℕ → Type 0
+Tested kinds m first last good a = (good && entries_good kinds m a (last - a)) ≡ entries_good kinds m first (last - first)
 
-module _ (kinds m : List ℕ) (first last : ℕ) where
-  pub testing_begun : first ≤ last → Tested kinds m first last true first
-  testing_begun h = record { from = omega arith; within = h; so_far = refl }
+module _ (kinds m : List ℕ) (first last : ℕ) (good : Bool) (a : ℕ) (t : Tested kinds m first last good a) where
+  pub again :
+      (k p : Bool) → a < last → k ≡ kind_rule (register_at m a) → p ≡ place_rule kinds a (register_at m a).kind
+      → Tested kinds m first last (good && k && p) (a + 1)
+  unfolding entries_good entry_good
+  again k p h ek ep =
+      let e : suc (last - (a + 1)) ≡ last - a = omega arith in
+      rw (and_assoc good k p, ek, ep, and_assoc good) (ap (λ (x : ℕ). good && entries_good kinds m a x) e ∙ t)
 
-  module _ (good : Bool) (a : ℕ) (t : Tested kinds m first last good a) where
-    pub again :
-        (k p : Bool) → a < last → k ≡ kind_rule (register_at m a) → p ≡ place_rule kinds a (register_at m a).kind
-        → Tested kinds m first last (good && k && p) (a + 1)
-    unfolding entries_good entry_good
-    again k p h ek ep =
-        let e : suc (last - (a + 1)) ≡ last - a = omega arith in
-        record {
-          from = omega arith;
-          within = omega arith;
-          so_far = rw (and_assoc good k p, ek, ep, and_assoc good) (ap (λ (x : ℕ). good && entries_good kinds m a x) e ∙ t.so_far);
-        }
-
-    pub ended : last ≤ a → good ≡ entries_good kinds m first (last - first)
-    unfolding entries_good
-    ended h =
-        let e : 0 ≡ last - a = omega arith in
-        sym (and-true good) ∙ ap (λ (x : ℕ). good && entries_good kinds m a x) e ∙ t.so_far
+  pub ended : last ≤ a → good ≡ entries_good kinds m first (last - first)
+  unfolding entries_good
+  ended h =
+      let e : 0 ≡ last - a = omega arith in
+      sym (and-true good) ∙ ap (λ (x : ℕ). good && entries_good kinds m a x) e ∙ t
 
 two_runs : (kinds m : List ℕ) (a j k : ℕ) → entries_good kinds m a (j + k) ≡ (entries_good kinds m a j && entries_good kinds m (a + j) k)
 unfolding entries_good

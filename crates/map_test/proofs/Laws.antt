@@ -10,6 +10,9 @@ use lib.ListN.{length}
 use lib.Dec.{eqb, leb}
 use Rattle.base_bits.specs.Tests.{every, unless}
 use Rattle.base_bits.proofs.Cases.{each, and_left, and_right, every_true}
+use Rattle.base_numbers.specs.declared.Refusal.{Refusal}
+use Rattle.base_numbers.specs.Numbers.{refusal_number, done}
+use Rattle.base_numbers.proofs.Numbers.{not_done}
 use Rattle.base_chip.specs.declared.Chip.{Chip}
 use Rattle.base_chip.specs.declared.Chip.TheVariants.{Newer, Older}
 use Rattle.base_chip.specs.declared.Part.{Part}
@@ -35,6 +38,10 @@ both_pass : (a b : Bool) → unless a 2 (unless b 3 0) ≡ 0 → (a ≡ true) ×
 both_pass true true h = (refl, refl)
 both_pass true false h = absurd (omega arith)
 both_pass false b h = absurd (omega arith)
+
+-- a refusal's number is not that of a call that is done
+pub refused_by : (e : Refusal) (k : ℕ) → refusal_number e ≡ k → eqb k done ≡ false
+refused_by e k h = rw (← h) (not_done e)
 
 -- the numbers of a map alone
 pub map_number_most : (c : Chip) (m : List ℕ) → map_number c m ≤ 3

@@ -33,7 +33,7 @@ pub fn form_good(map: &[u8]) -> bool
     }
     let n = count(map);
     let size = head(map) + ENTRY_SIZE * n;
-    let length = map[0] as usize * 256 + map[1] as usize;
+    let length = u16::from_be_bytes([map[0], map[1]]) as usize;
     let version = map[2];
     (LENGTH_SIZE + length == size)
         & ((version == 1) | (version == FLAGGED))
@@ -41,19 +41,6 @@ pub fn form_good(map: &[u8]) -> bool
         & (n <= MOST_COUNT)
         & (map.len() == size)
         & (flags(map) <= 1)
-}
-
-// The entry of a register that the map has.
-fn register_at(map: &[u8], address: usize) -> Entry
-    requires { (Formed map.now) × (address < count_of map.now) }
-    ensures { result ≡ register_at map.now address }
-{
-    let at = head(map) + ENTRY_SIZE * address;
-    Entry {
-        kind: map[at],
-        mask: map[at + 1],
-        default: map[at + 2],
-    }
 }
 
 // Whether mask and default are as the kind asks.
@@ -65,88 +52,109 @@ fn kind_good(entry: Entry) -> bool
     changes | (entry.mask == 0) & ((entry.kind == READ_ONLY) | fixed & (entry.default == 0))
 }
 
-// Whether the entries at the places of a table are good.
-fn places_good(kinds: &[u8], map: &[u8]) -> bool
-    requires { (Formed map.now) × (length kinds.now ≤ least_count) }
-    ensures { result ≡ entries_good kinds.now map.now 0 (length kinds.now) }
-{
-    let mut good = true;
-    let mut address = 0;
-    while address < kinds.len() {
-        let entry = register_at(map, address);
-        good = good & kind_good(entry) & place_good(kinds[address], entry.kind);
-        address += 1;
+// The lent bytes of a map whose form is good.
+#[derive(Clone, Copy)]
+struct FormedMap<'a> {
+    bytes: &'a [u8],
+    ghost formed: { Formed bytes.now },
+}
+
+impl<'a> FormedMap<'a> {
+    // The entry of a register that the map has.
+    fn register_at(self, address: usize) -> Entry
+        requires { address < count_of self.bytes.now }
+        ensures { result ≡ register_at self.entry.bytes.now address }
+    {
+        let at = head(self.bytes) + ENTRY_SIZE * address;
+        Entry {
+            kind: self.bytes[at],
+            mask: self.bytes[at + 1],
+            default: self.bytes[at + 2],
+        }
     }
-    good
-}
 
-// Whether the entries from an address on are good, where all places are free.
-fn others_good(first: usize, map: &[u8]) -> bool
-    requires { (Formed map.now) × (first ≤ least_count) }
-    ensures { result ≡ entries_good [] map.now first (count_of map.now - first) }
-{
-    let n = count(map);
-    let mut good = true;
-    let mut address = first;
-    while address < n {
-        let entry = register_at(map, address);
-        good = good & kind_good(entry) & (entry.kind != CONTROL);
-        address += 1;
+    // Whether the entries at the places of a table are good.
+    fn places_good(self, kinds: &[u8]) -> bool
+        requires { length kinds.now ≤ least_count }
+        ensures { result ≡ entries_good kinds.now self.entry.bytes.now 0 (length kinds.now) }
+    {
+        let mut good = true;
+        for (address, place) in kinds.iter().enumerate() {
+            let entry = self.register_at(address);
+            good = good & kind_good(entry) & place_good(*place, entry.kind);
+        }
+        good
     }
-    good
-}
 
-// Whether all entries are good by a table: at its places, and beyond them.
-fn entries_good(kinds: &[u8], map: &[u8]) -> bool
-    requires { (Formed map.now) × (length kinds.now ≤ least_count) }
-    ensures { result ≡ entries_good kinds.now map.now 0 (count_of map.now) }
-{
-    places_good(kinds, map) & others_good(kinds.len(), map)
-}
+    // Whether the entries from an address on are good, where all places are free.
+    fn others_good(self, first: usize) -> bool
+        requires { first ≤ least_count }
+        ensures { result ≡ entries_good [] self.entry.bytes.now first (count_of self.entry.bytes.now - first) }
+    {
+        let mut good = true;
+        for address in first..count(self.bytes) {
+            let entry = self.register_at(address);
+            good = good & kind_good(entry) & (entry.kind != CONTROL);
+        }
+        good
+    }
 
-// Whether all entries are good on an older part.
-fn older_good(part: Part, map: &[u8]) -> bool
-    requires { Formed map.now }
-    ensures { result ≡ entries_good (older_kinds part) map.now 0 (count_of map.now) }
-{
-    match part {
-        Part::Ad9557 => entries_good(&AD9557_KINDS, map),
-        Part::Ad9508 => entries_good(&AD9508_KINDS, map),
+    // Whether all entries are good by a table: at its places, and beyond them.
+    fn entries_good(self, kinds: &[u8]) -> bool
+        requires { length kinds.now ≤ least_count }
+        ensures { result ≡ entries_good kinds.now self.entry.bytes.now 0 (count_of self.entry.bytes.now) }
+    {
+        self.places_good(kinds) & self.others_good(kinds.len())
+    }
+
+    // Whether all entries are good on an older part.
+    fn older_good(self, part: Part) -> bool
+        ensures { result ≡ entries_good (older_kinds part) self.entry.bytes.now 0 (count_of self.entry.bytes.now) }
+    {
+        match part {
+            Part::Ad9557 => self.entries_good(&AD9557_KINDS),
+            Part::Ad9508 => self.entries_good(&AD9508_KINDS),
+        }
+    }
+
+    // Whether the product number is neither 0x0000 nor 0xFFFF.
+    fn product_good(self) -> bool
+        ensures { result ≡ product_good self.entry.bytes.now }
+    {
+        let low = self.register_at(PRODUCT_LOW_PLACE).default;
+        let high = self.register_at(PRODUCT_HIGH_PLACE).default;
+        let product = u16::from_be_bytes([high, low]);
+        (product != 0x0000) & (product != 0xFFFF)
+    }
+
+    // Whether the vendor bytes, the product number and the mask of scratch are right.
+    fn further_good(self) -> bool
+        ensures { result ≡ every (further_tests Newer self.entry.bytes.now) }
+    {
+        let vendor = b"\x56\x04";
+        (self.register_at(VENDOR_LOW_PLACE).default == vendor[0])
+            & (self.register_at(VENDOR_HIGH_PLACE).default == vendor[1])
+            & self.product_good()
+            & (self.register_at(SCRATCH_PLACE).mask == SCRATCH_MASK)
+    }
+
+    // Whether the entries and the further rules are good on a chip.
+    fn rules_good(self, chip: Chip) -> bool
+        ensures { result ≡ rules_good chip self.entry.bytes.now }
+    {
+        match chip {
+            Chip::Newer => self.entries_good(&PLACE_KINDS) & self.further_good(),
+            Chip::Older { part, top: _ } => self.older_good(part),
+        }
     }
 }
 
-// Whether the product number is neither 0x0000 nor 0xFFFF.
+// Whether the product number of a map of good form is neither 0x0000 nor 0xFFFF.
 pub fn product_good(map: &[u8]) -> bool
     requires { Formed map.now }
     ensures { result ≡ product_good map.now }
 {
-    let low = register_at(map, PRODUCT_LOW_PLACE).default as u16;
-    let high = register_at(map, PRODUCT_HIGH_PLACE).default as u16;
-    let product = high * 256 + low;
-    (product != 0x0000) & (product != 0xFFFF)
-}
-
-// Whether the vendor bytes, the product number and the mask of scratch are right.
-fn further_good(map: &[u8]) -> bool
-    requires { Formed map.now }
-    ensures { result ≡ every (further_tests Newer map.now) }
-{
-    let vendor = b"\x56\x04";
-    (register_at(map, VENDOR_LOW_PLACE).default == vendor[0])
-        & (register_at(map, VENDOR_HIGH_PLACE).default == vendor[1])
-        & product_good(map)
-        & (register_at(map, SCRATCH_PLACE).mask == SCRATCH_MASK)
-}
-
-// Whether the entries and the further rules are good on a chip.
-fn rules_good(chip: Chip, map: &[u8]) -> bool
-    requires { Formed map.now }
-    ensures { result ≡ rules_good chip map.now }
-{
-    match chip {
-        Chip::Newer => entries_good(&PLACE_KINDS, map) & further_good(map),
-        Chip::Older { part, top: _ } => older_good(part, map),
-    }
+    FormedMap { bytes: map }.product_good()
 }
 
 // Whether a chip can have a map, whatever its top: refused by 2 where the form is wrong, or by 3 where an entry breaks a rule.
@@ -156,7 +164,8 @@ pub fn check_map(chip: Chip, map: &[u8]) -> Result<(), Refusal>
     if !form_good(map) {
         return Err(Refusal::BadMapForm);
     }
-    if !rules_good(chip, map) {
+    let formed = FormedMap { bytes: map };
+    if !formed.rules_good(chip) {
         return Err(Refusal::BadMapEntry);
     }
     Ok(())

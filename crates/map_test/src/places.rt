@@ -32,7 +32,8 @@ pub const PLACE_KINDS: [u8; PLACES] = [
     READ_ONLY, READ_ONLY, READ_ONLY, BLANK, CONTROL,
 ];
 
-// The same of the older parts: control at 0x0000, 0x0005 and, for the AD9557, 0x0004.
+// The same of the older parts: control at 0x0000, 0x0005 and, for the AD9557, 0x0004. Each has its table, since one made by a
+// test of the part is no plainer.
 pub const AD9557_KINDS: [u8; 6] = [CONTROL, FREE, FREE, FREE, CONTROL, CONTROL];
 
 pub const AD9508_KINDS: [u8; 6] = [CONTROL, FREE, FREE, FREE, FREE, CONTROL];

@@ -5,8 +5,8 @@ use Rattle.map_test.specs.MapTest.{map_number}
 use Rattle.map_test.proofs.Laws.{formed}
 use Rattle.map_test.proofs.check_map.Goals as goal
 
-pub rules_good-requires : goal.rules_good-requires
-rules_good-requires c = formed _ (sym c.form_good.ensures ∙ c.if-not-form_good.false)
+pub invariant_of-formed : goal.invariant_of-formed
+invariant_of-formed c = record { formed = formed _ (sym c.form_good.ensures ∙ c.if-not-form_good.false) }
 
 pub returns-then-not-form_good : goal.returns-then-not-form_good
 unfolding map_number

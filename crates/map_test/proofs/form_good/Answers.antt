@@ -1,11 +1,13 @@
 -- `form_good` meets its contract: its tests are those of the form, in their order. Two bytes bound a word, so that no sum wraps.
+use mathlib.Core.Path.{◌≡◌}
 use mathlib.Core.Bool.{true}
 use Prim.Native.Nat.{◌<◌, ◌^◌}
 use native.Mathlib.Omega.{arith}
 use borrow.Author.Tests.{lt-leb, le-leb}
 use lib.ListN.{length}
+use Rattle.std.proofs.Common.{rules}
 use Rattle.base_bits.proofs.Cases.{joined_every}
-use Rattle.map_format.specs.Format.{head_size}
+use Rattle.map_format.specs.Format.{length_of, head_size}
 use Rattle.map_format.proofs.Laws.{count_fits, head_bounds}
 use Rattle.map_test.specs.MapTest.{form_tests}
 use Rattle.map_test.proofs.form_good.Goals as goal
@@ -28,23 +30,9 @@ overflow_add-size c =
     rw c.count-n.ensures (count_fits c.args.map.now (λ i. (c.type_inv.map i).fits)) in
     omega (arith, small, c.head.ensures, head_bounds c.args.map.now)
 
-pub overflow_cast-length : goal.overflow_cast-length
-overflow_cast-length c = omega (arith, c.type_inv.map 0)
-
-pub overflow_mul-length : goal.overflow_mul-length
-overflow_mul-length c = omega (arith, c.type_inv.map 0)
-
-pub overflow_cast-length-2 : goal.overflow_cast-length-2
-overflow_cast-length-2 c = omega (arith, c.type_inv.map 1)
-
-pub overflow_add-length : goal.overflow_add-length
-overflow_add-length c = let byte = c.type_inv.map in omega (arith, byte 0, byte 1)
-
-pub overflow_add-result : goal.overflow_add-result
-overflow_add-result c = let byte = c.type_inv.map in omega (arith, byte 0, byte 1)
-
 pub returns : goal.returns
 returns c =
     let m = c.args.map.now in
     let long = le-leb head_size (length m) (omega arith) in
-    rw (c.count-n.ensures, c.head.ensures, c.flags.ensures, long) (rw long at (joined_every true (form_tests m)))
+    let length_read : c.from_be_bytes-length.result ≡ length_of m = search rules in
+    rw (c.count-n.ensures, c.head.ensures, c.flags.ensures, length_read, long) (rw long at (joined_every true (form_tests m)))

@@ -1,13 +1,10 @@
 -- `map_test_older` meets its contract: the map's own refusal first, and number 12 only of a good map.
-use mathlib.Core.Path.{refl, ap, sym, ◌∙◌}
-use Prim.Native.Nat.{ℕ}
-use lib.Dec.{eqb}
+use mathlib.Core.Path.{refl, sym, ◌∙◌}
 use borrow.Author.Tests.{eq-eqb}
 use Rattle.std.proofs.lemmas.Result.{err_from_is_err_and}
 use Rattle.base_bits.proofs.Cases.{yes, no}
-use Rattle.base_numbers.specs.Numbers.{done}
-use Rattle.base_numbers.proofs.Numbers.{not_done}
 use Rattle.map_test.specs.MapTest.{map_test_number}
+use Rattle.map_test.proofs.Laws.{refused_by}
 use Rattle.map_test.proofs.map_test_older.Goals as goal
 
 pub returns-in_err-check_map : goal.returns-in_err-check_map
@@ -15,7 +12,7 @@ unfolding map_test_number
 returns-in_err-check_map c =
     let refused = c.in_err-check_map.ensures in
     let given = err_from_is_err_and c.from_residual.result c.from_residual.ensures.1 in
-    rw (given.1, given.2) (no _ (ap (λ (n : ℕ). eqb n done) (sym refused) ∙ not_done _) refused)
+    rw (given.1, given.2) (no _ (refused_by _ _ refused) refused)
 
 pub returns-then-top_fits : goal.returns-then-top_fits
 unfolding map_test_number

@@ -1,26 +1,11 @@
 -- `places_good` meets its contract: what the loop has found, with the entries that are left, is the whole run.
 use mathlib.Core.Path.{ap, ◌∙◌}
 use native.Mathlib.Nat.{sub-zero}
-use native.Mathlib.Omega.{arith}
 use Rattle.map_format.specs.declared.Entry.{Entry}
 use Rattle.map_test.specs.MapTest.{kind_rule, place_rule}
 use Rattle.map_test.proofs.PlaceKinds.{at_place}
-use Rattle.map_test.proofs.Entries.{testing_begun, again, ended}
-use Rattle.map_test.proofs.places_good.Goals as goal
-
-pub loop-address-init : goal.loop-address-init
-loop-address-init c = testing_begun _ _ 0 _ (omega arith)
-
-pub register_at-entry-requires : goal.register_at-entry-requires
-register_at-entry-requires c =
-    let p = c.requires in
-    (p.0, omega (arith, c.loop-address-test.true, p.1, p.0.least))
-
-pub overflow_add-address : goal.overflow_add-address
-overflow_add-address c = omega arith
-
-pub loop-address-smaller : goal.loop-address-smaller
-loop-address-smaller c = omega arith
+use Rattle.map_test.proofs.Entries.{again, ended}
+use Rattle.map_test.proofs.FormedMap.places_good.Goals as goal
 
 pub loop-address-preserved : goal.loop-address-preserved
 loop-address-preserved c =

@@ -3,28 +3,12 @@ use mathlib.Core.Path.{ap, ◌∙◌}
 use mathlib.Core.Bool.{not}
 use mathlib.Core.List.{[]}
 use Prim.Native.Nat.{ℕ, ◌-◌}
-use native.Mathlib.Omega.{arith}
 use lib.Dec.{eqb}
 use Rattle.map_format.specs.declared.Entry.{Entry}
 use Rattle.map_format.specs.Format.{control}
 use Rattle.map_test.specs.MapTest.{kind_rule, place_rule, entries_good}
-use Rattle.map_test.proofs.Entries.{testing_begun, again, ended}
-use Rattle.map_test.proofs.others_good.Goals as goal
-
-pub loop-address-init : goal.loop-address-init
-loop-address-init c =
-    let p = c.requires in
-    testing_begun [] _ _ _ (omega (arith, p.0.least, p.1, c.count-n.ensures))
-
-pub register_at-entry-requires : goal.register_at-entry-requires
-register_at-entry-requires c =
-    (c.requires.0, omega (arith, c.loop-address-test.true, c.count-n.ensures))
-
-pub overflow_add-address : goal.overflow_add-address
-overflow_add-address c = omega arith
-
-pub loop-address-smaller : goal.loop-address-smaller
-loop-address-smaller c = omega arith
+use Rattle.map_test.proofs.Entries.{again, ended}
+use Rattle.map_test.proofs.FormedMap.others_good.Goals as goal
 
 pub loop-address-preserved : goal.loop-address-preserved
 unfolding place_rule
@@ -40,4 +24,4 @@ returns c =
     let at = c.loop-address in
     let a = c.args in
     ended [] _ _ _ at.good at.address at.invariant c.loop-address-test.false
-    ∙ ap (λ (n : ℕ). entries_good [] a.map.now a.first (n - a.first)) c.count-n.ensures
+    ∙ ap (λ (n : ℕ). entries_good [] a.self.bytes.now a.first (n - a.first)) c.count-address-end.ensures
