@@ -26,10 +26,10 @@ pub(crate) fn pass_of(chip: Chip, storing: bool, map: &[u8]) -> Pass
     ensures { result ≡ pass_of chip storing map.now }
 {
     Pass {
-        chip: chip,
+        chip,
         newer: is_newer(chip),
         moves: moves_at_rise(chip, map),
-        storing: storing,
+        storing,
     }
 }
 
@@ -53,16 +53,14 @@ pub(crate) fn pass_byte(
         (banks active.new buffer.new) words.new records.new result }
 {
     if pass.storing {
-        let chip = pass.chip;
-        let settings = s.port.settings;
         return take_byte(
-            chip,
+            pass.chip,
             pass.moves,
             map,
             active,
             buffer,
             words,
-            settings,
+            s.port.settings,
             told.armed,
             s.port.read,
             s.port.address,
@@ -73,7 +71,7 @@ pub(crate) fn pass_byte(
     }
     EventOutcome {
         at: told.at + RECORD,
-        armed: told.armed,
+        ..told
     }
 }
 
@@ -95,15 +93,13 @@ pub(crate) fn pass_end(
         (banks active.new buffer.new) words.new records.new result }
 {
     if pass.storing {
-        let chip = pass.chip;
-        let settings = s.port.settings;
         return take_end(
-            chip,
+            pass.chip,
             map,
             active,
             buffer,
             words,
-            settings,
+            s.port.settings,
             told.armed,
             s.port.address,
             s.port.bits,
@@ -117,6 +113,6 @@ pub(crate) fn pass_end(
     }
     EventOutcome {
         at: told.at + RECORD,
-        armed: told.armed,
+        ..told
     }
 }

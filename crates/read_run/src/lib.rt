@@ -14,7 +14,7 @@ use crate::scanning::{
     LAST_OF_BYTE, LAST_OF_INSTRUCTION, ScanPort, after_byte, byte_at, clocked, enter, port_of,
     rest, scan, scan_port, scanned, start, with_levels,
 };
-use base_card::CARD;
+use base_card::Card;
 use base_chip::Chip;
 use bus_session::{Session, may_stall};
 use read_records::EventOutcome;
@@ -30,10 +30,7 @@ pub struct RunEnd {
 fn none_told(armed: bool) -> EventOutcome
     ensures { result ≡ none_told armed }
 {
-    EventOutcome {
-        at: 0,
-        armed: armed,
-    }
+    EventOutcome { at: 0, armed }
 }
 
 // Where it ends, by the port and what was put last.
@@ -45,7 +42,7 @@ fn run_end(s: ScanPort, told: EventOutcome) -> RunEnd
         armed: told.armed,
     };
     RunEnd {
-        session: session,
+        session,
         size: told.at,
     }
 }
@@ -68,7 +65,7 @@ pub fn run_samples(
         samples.now records.old
         (reader_state result.session active.new buffer.new words.new) result.size records.new }
 {
-    let card = CARD;
+    let card = Card::new();
     let pass = pass_of(chip, storing, map);
     let mut s = scan_port(pass.newer, session.port);
     let mut told = none_told(session.armed);

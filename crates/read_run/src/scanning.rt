@@ -1,7 +1,6 @@
 // The port as the scan takes it, and what a stop of the scan makes of it.
 ghost use Rattle.std.specs.Prelude.{◌≡◌, true, cond, ◌<◌};
 ghost use Rattle.base_bits.specs.Bits.{bit_at};
-ghost use Rattle.base_card.specs.Card.{IsCard};
 ghost use Rattle.bus_session.specs.Step.{value_with};
 ghost use Rattle.bus_trace.specs.Scan.{ProgressBounds, ScanAfter};
 ghost use Rattle.read_run.specs.Reach.{reaches};
@@ -9,6 +8,7 @@ ghost use Rattle.read_run.specs.ScanPort.{phase_of_last, scanned_port, scan_port
 ghost use Rattle.read_run.specs.Promises.{ByteBounds, EnterBefore, EnterAfter, WholeByteBefore, WholeByteAfter};
 
 use base_bits::{bit_at, shift_in};
+use base_card::Card;
 use base_chip::{Chip, READBACK_CONTROL};
 use bus_session::{Phase, Port, SCLK, SDIO, SDO, left_after, runs_out};
 use bus_settings::next_address;
@@ -55,7 +55,7 @@ fn reaches(chip: Chip, address: u16) -> bool
 {
     match chip {
         Chip::Newer => true,
-        Chip::Older { part: _, top } => (address as u64) <= top,
+        Chip::Older { top, .. } => (address as u64) <= top,
     }
 }
 
@@ -63,20 +63,9 @@ fn reaches(chip: Chip, address: u16) -> bool
 pub(crate) fn port_of(s: ScanPort) -> Port
     ensures { result ≡ scanned_port s }
 {
-    let phase = phase_of(s.last);
-    let settings = s.port.settings;
-    let in_use = s.port.in_use;
     Port {
-        csb: s.port.csb,
-        sclk: s.port.sclk,
-        phase: phase,
-        bits: s.port.bits,
-        value: s.port.value,
-        address: s.port.address,
-        read: s.port.read,
-        settings: settings,
-        in_use: in_use,
-        left: s.port.left,
+        phase: phase_of(s.last),
+        ..s.port
     }
 }
 
@@ -84,17 +73,16 @@ pub(crate) fn port_of(s: ScanPort) -> Port
 pub(crate) fn scan_port(newer: bool, port: Port) -> ScanPort
     ensures { result ≡ scan_port newer port }
 {
-    let phase = port.phase;
     ScanPort {
-        port: port,
-        last: last_of(phase),
+        port,
+        last: last_of(port.phase),
         line: line_at(port.read & port.in_use.sdo_active & newer),
     }
 }
 
 // Where the samples from a place on stop.
-pub(crate) fn scan(card: &[u8; 16], samples: &[u8], s: ScanPort, i: usize) -> Progress
-    requires { (ProgressBounds samples.now s.last (progress_at s.port i)) × (s.line < 4) × (IsCard card.now) }
+pub(crate) fn scan(card: &Card, samples: &[u8], s: ScanPort, i: usize) -> Progress
+    requires { (ProgressBounds samples.now s.last (progress_at s.port i)) × (s.line < 4) }
     ensures { ScanAfter samples.now s.port.csb s.line s.port.in_use.lsb_first s.last (progress_at s.port i) result }
 {
     let from = Progress {
@@ -122,11 +110,7 @@ pub(crate) fn scanned(s: ScanPort, p: Progress) -> ScanPort
     port.sclk = p.level == 2;
     port.bits = p.bits;
     port.value = p.value;
-    ScanPort {
-        port: port,
-        last: s.last,
-        line: s.line,
-    }
+    ScanPort { port, ..s }
 }
 
 // With the levels of a sample.
@@ -136,11 +120,7 @@ pub(crate) fn with_levels(s: ScanPort, csb: bool, x: u8) -> ScanPort
     let mut port = s.port;
     port.csb = csb;
     port.sclk = bit_at(x, SCLK);
-    ScanPort {
-        port: port,
-        last: s.last,
-        line: s.line,
-    }
+    ScanPort { port, ..s }
 }
 
 // With SCLK high: a bit that an older chip passes over.
@@ -149,11 +129,7 @@ pub(crate) fn clocked(s: ScanPort) -> ScanPort
 {
     let mut port = s.port;
     port.sclk = true;
-    ScanPort {
-        port: port,
-        last: s.last,
-        line: s.line,
-    }
+    ScanPort { port, ..s }
 }
 
 // An instruction starts, and takes its settings.
@@ -165,13 +141,14 @@ pub(crate) fn start(s: ScanPort) -> ScanPort
     let in_use = settings.in_use();
     port.in_use = in_use;
     ScanPort {
-        port: port,
+        port,
         last: LAST_OF_INSTRUCTION,
-        line: s.line,
+        ..s
     }
 }
 
-// The frame has ended, or the rest of it is passed over.
+// The frame has ended, or the rest of it is passed over. The settings in use are cleared one by one: set together they take more
+// instructions a sample (docs/decisions/layout.md).
 pub(crate) fn rest(s: ScanPort) -> ScanPort
     ensures { result ≡ scan_rest s }
 {
@@ -186,7 +163,7 @@ pub(crate) fn rest(s: ScanPort) -> ScanPort
     port.in_use.single_instruction = false;
     port.left = 0;
     ScanPort {
-        port: port,
+        port,
         last: LAST_AT_REST,
         line: SDIO,
     }
@@ -212,17 +189,17 @@ pub(crate) fn enter(chip: Chip, newer: bool, s: ScanPort, x: u8) -> ScanPort
     if newer {
         port.address = value % 0x8000;
         return ScanPort {
-            port: port,
+            port,
             last: LAST_OF_BYTE,
-            line: line,
+            line,
         };
     }
     port.address = value % 0x2000;
     port.left = (value / 0x2000 % 4 + 1) as u8;
     let entered = ScanPort {
-        port: port,
+        port,
         last: LAST_OF_BYTE,
-        line: line,
+        line,
     };
     if reaches(chip, port.address) {
         return entered;
@@ -262,30 +239,30 @@ pub(crate) fn after_byte(chip: Chip, newer: bool, s: ScanPort, byte: u8) -> Scan
             port.address = 0;
             port.read = false;
             return start(ScanPort {
-                port: port,
+                port,
                 last: LAST_OF_BYTE,
                 line: SDIO,
             });
         }
         port.address = next_address(port.in_use.ascending, port.address);
         return ScanPort {
-            port: port,
+            port,
             last: LAST_OF_BYTE,
-            line: s.line,
+            ..s
         };
     }
     if runs_out(chip, port.left, port.address, port.in_use.lsb_first) {
         return rest(ScanPort {
-            port: port,
+            port,
             last: LAST_OF_BYTE,
-            line: s.line,
+            ..s
         });
     }
     port.address = next_address(port.in_use.lsb_first, port.address);
     port.left = left_after(port.left);
     ScanPort {
-        port: port,
+        port,
         last: LAST_OF_BYTE,
-        line: s.line,
+        ..s
     }
 }

@@ -4,7 +4,6 @@ use mathlib.Core.Path.{refl, sym, ◌∙◌, ap}
 use mathlib.Core.Bool.{Bool, ◌&&◌}
 use lib.Dec.{eqb}
 use native.Mathlib.Omega.{arith}
-use Rattle.base_card.proofs.Entries.{is_card}
 use Rattle.bus_session.specs.State.{is_counted}
 use Rattle.read_run.specs.declared.events.Pass.{Pass}
 use Rattle.read_run.specs.declared.scanning.ScanPort.{ScanPort}
@@ -29,7 +28,7 @@ loop-i-init c =
 pub scan-p-requires : goal.scan-p-requires
 scan-p-requires c =
     let k = c.loop-i.invariant.1 in
-    (start_stands k c.loop-i-test.true, line_small k c.loop-i-test.true, is_card)
+    (start_stands k c.loop-i-test.true, line_small k c.loop-i-test.true)
 
 pub bounds-samples-i : goal.bounds-samples-i
 bounds-samples-i c = c.if-samples-i.false
