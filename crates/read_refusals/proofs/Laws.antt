@@ -11,6 +11,9 @@ use borrow.Author.Tests.{eq-eqb, ne_eqb, eqb-true, lt-leb, le-leb}
 use Rattle.base_bits.specs.Tests.{unless}
 use Rattle.base_bits.proofs.Cases.{yes, no, and_left, and_right}
 use Rattle.base_sizes.specs.Sizes.{record_size}
+use Rattle.base_numbers.specs.declared.Refusal.{Refusal}
+use Rattle.base_numbers.specs.Numbers.{refusal_number}
+use Rattle.base_numbers.proofs.Numbers.{some_number}
 use Rattle.map_format.specs.Format.{count_of}
 use Rattle.base_chip.specs.declared.Chip.{Chip}
 use Rattle.map_test.specs.MapTest.{map_number, top_fits}
@@ -19,6 +22,10 @@ use Rattle.bus_session.specs.State.{sound_session}
 use Rattle.reg_banks.specs.Banks.{Banks, Mapped}
 use Rattle.read_run.specs.Reading.{ReaderState, record_count}
 use Rattle.read_refusals.specs.Numbers.{banks_fit, open_number, words_fit, samples_good, read_number}
+
+-- no refusal has the number of a call that is done
+pub some_refusal : (e : Refusal) → refusal_number e ≢ 0
+some_refusal e = λ q. omega (arith, some_number e)
 
 -- a test that refuses with a number, and the tests after it
 passed : (t : Bool) (n next : ℕ) → n ≢ 0 → unless t n next ≡ 0 → (t ≡ true) × (next ≡ 0)

@@ -1,7 +1,8 @@
-// The numbers of the reader's two calls: document 01's refusals in their order. Nothing is changed here.
+// Whether the reader's two calls are refused: document 01's refusals in their order. Nothing is changed here.
 #![tactic(auto)]
 
 ghost use Rattle.std.specs.Prelude.{◌≡◌, ◌+◌, ◌/◌, ◌≤◌, eqb, length};
+ghost use Rattle.base_numbers.specs.Numbers.{number_of};
 ghost use Rattle.map_test.specs.MapTest.{map_number};
 ghost use Rattle.reg_banks.specs.Banks.{banks};
 ghost use Rattle.read_run.specs.Reading.{reader_state};
@@ -10,28 +11,33 @@ ghost use Rattle.read_refusals.specs.Numbers.{open_number, read_number};
 mod room;
 
 use base_chip::Chip;
-use base_numbers::{BAD_BANK, BAD_SAMPLES, BAD_SESSION, BAD_TOP, BAD_WORDS, DONE, SHORT_RECORDS};
+use base_numbers::Refusal;
 use bus_session::Session;
 use bus_soundness::sound;
 use map_test::top_fits;
 use room::{room_suffices, samples_good};
 
-// The number of opening, by that of the map test: 0, or the refusal.
-pub fn open_refusal(chip: Chip, number: u8, map: &[u8], active: &[u8], buffer: &[u8]) -> u8
-    requires { number ≡ map_number chip map.now }
-    ensures { result ≡ open_number chip map.now (banks active.now buffer.now) }
+// Whether opening is refused, by what the map test says.
+pub fn check_open(
+    chip: Chip,
+    tested: Result<(), Refusal>,
+    map: &[u8],
+    active: &[u8],
+    buffer: &[u8],
+) -> Result<(), Refusal>
+    requires { number_of tested ≡ map_number chip map.now }
+    ensures { number_of result ≡ open_number chip map.now (banks active.now buffer.now) }
 {
-    if number != DONE {
-        return number;
-    }
+    tested?;
     let count = map_format::count(map);
-    if (active.len() == count) & (buffer.len() == count) {
-        if top_fits(chip, map) {
-            return DONE;
-        }
-        return BAD_TOP;
+    let fit = (active.len() == count) & (buffer.len() == count);
+    if !fit {
+        return Err(Refusal::BadBank);
     }
-    BAD_BANK
+    if !top_fits(chip, map) {
+        return Err(Refusal::BadTop);
+    }
+    Ok(())
 }
 
 // Whether there are as many words of touched registers as a map of so many registers needs.
@@ -42,8 +48,8 @@ fn words_fit(count: usize, words: &[u64]) -> bool
     words.len() == (count + 63) / 64
 }
 
-// The number of reading on a map that the chip can have: 0, or the refusal.
-pub fn read_refusal(
+// Whether reading is refused, on a map that the chip can have.
+pub fn check_read(
     chip: Chip,
     map: &[u8],
     session: Session,
@@ -52,30 +58,27 @@ pub fn read_refusal(
     words: &[u64],
     samples: &[u8],
     room: usize,
-) -> u8
+) -> Result<(), Refusal>
     requires { map_number chip map.now ≡ 0 }
-    ensures { result
+    ensures { number_of result
         ≡ read_number chip map.now (reader_state session active.now buffer.now words.now)
         samples.now room }
 {
     if !sound(chip, session) {
-        return BAD_SESSION;
+        return Err(Refusal::BadSession);
     }
-    let opens = open_refusal(chip, DONE, map, active, buffer);
-    if opens != DONE {
-        return opens;
-    }
+    check_open(chip, Ok(()), map, active, buffer)?;
     if !words_fit(map_format::count(map), words) {
-        return BAD_WORDS;
+        return Err(Refusal::BadWords);
     }
     if 65536 < samples.len() {
-        return BAD_SAMPLES;
+        return Err(Refusal::BadSamples);
     }
     if !samples_good(samples) {
-        return BAD_SAMPLES;
+        return Err(Refusal::BadSamples);
     }
-    if room_suffices(chip, session, samples, room) {
-        return DONE;
+    if !room_suffices(chip, session, samples, room) {
+        return Err(Refusal::ShortRecords);
     }
-    SHORT_RECORDS
+    Ok(())
 }

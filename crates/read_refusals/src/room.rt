@@ -14,11 +14,9 @@ use read_run::run_samples;
 pub fn samples_good(samples: &[u8]) -> bool
     ensures { result ≡ samples_good samples.now }
 {
-    let mut together: u8 = 0;
-    let mut i: usize = 0;
-    while i < samples.len() {
-        together = together | samples[i];
-        i += 1;
+    let mut together = 0;
+    for x in samples {
+        together |= *x;
     }
     together <= 15
 }
@@ -28,21 +26,16 @@ fn count_records(chip: Chip, session: Session, samples: &[u8]) -> usize
     requires { (sound_session chip session ≡ true) × (length samples.now ≤ 65536) }
     ensures { result ≡ record_count chip session.port samples.now }
 {
-    let map = [0u8; 1];
-    let mut active = [0u8; 1];
-    let mut buffer = [0u8; 1];
-    let mut words = [0u64; 1];
-    let mut records = [0u8; 1];
     let passed = run_samples(
         chip,
         false,
-        &map,
+        &[],
         session,
-        &mut active,
-        &mut buffer,
-        &mut words,
+        &mut [],
+        &mut [],
+        &mut [],
         samples,
-        &mut records,
+        &mut [],
     );
     passed.size / RECORD
 }
