@@ -1,19 +1,19 @@
 -- `open_on` meets its contract: done, each default stands in both banks; refused, the banks are as they were.
-use mathlib.Core.Path.{sym, ◌∙◌}
-use Rattle.read_refusals.proofs.Laws.{opens, fits_mapped}
+use mathlib.Core.Path.{refl, sym}
+use Rattle.std.proofs.lemmas.Result.{err_from_is_err_and}
+use Rattle.read_refusals.proofs.Laws.{opens, fits_mapped, some_refusal}
 use Rattle.read_calls.proofs.Laws.{open_refused, open_done}
 use Rattle.read_calls.proofs.open_on.Goals as goal
 
+pub returns-in_err-check_open : goal.returns-in_err-check_open
+returns-in_err-check_open c =
+    let given = err_from_is_err_and c.from_residual.result c.from_residual.ensures.1 in
+    rw (given.1, given.2) (open_refused _ _ _ _ c.in_err-check_open.ensures _ c.opened.ensures (some_refusal _))
+
 pub reset-requires : goal.reset-requires
 reset-requires c =
-    let t = opens _ _ _ (sym c.open_refusal-number.ensures ∙ c.if-number-eq-DONE.true) in
+    let t = opens _ _ _ (sym c.in_ok-check_open.ensures) in
     fits_mapped _ _ t.fits
 
-pub returns-then-number-eq-DONE : goal.returns-then-number-eq-DONE
-returns-then-number-eq-DONE c =
-    open_done _ _ _ _ c.open_refusal-number.ensures _
-    c.opened-session.ensures
-    c.if-number-eq-DONE.true _ c.reset.ensures
-
-pub returns-else-number-eq-DONE : goal.returns-else-number-eq-DONE
-returns-else-number-eq-DONE c = open_refused _ _ _ _ c.open_refusal-number.ensures _ c.opened-session.ensures c.if-number-eq-DONE.false
+pub returns : goal.returns
+returns c = open_done _ _ _ _ c.in_ok-check_open.ensures _ c.opened.ensures refl _ c.reset.ensures
