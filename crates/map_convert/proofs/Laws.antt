@@ -1,16 +1,23 @@
 -- Laws of the converter: how many bytes it makes, and what number 0 says of its map.
 use mathlib.Core.Path.{◌≡◌, refl, ap, sym, ◌∙◌, subst}
 use mathlib.Core.Bool.{Bool, true, false, cond, ◌||◌, true≢false}
-use mathlib.Core.List.{List, [], ◌∷◌}
-use Prim.Native.Nat.{ℕ, ◌+◌, ◌*◌, ◌/◌, ◌%◌, ◌≤◌}
+use mathlib.Core.List.{List, [], ◌∷◌, ◌++◌}
+use Prim.Native.Nat.{ℕ, ◌+◌, ◌-◌, ◌*◌, ◌/◌, ◌%◌, ◌≤◌}
 use native.Mathlib.Omega.{arith}
-use lib.ListN.{length, drop, length-append, length-drop}
+use lib.ListN.{length, take, drop, length-append, length-drop}
+use Rattle.std.proofs.Common.{append_assoc}
+use borrow.Rule.Slice.PartMut.{put_mid}
+use lib.Seq.{sets-eq, drop-drop}
 use lib.Dec.{eqb, leb}
-use borrow.Author.Tests.{eqb-true, leb-true, eq-eqb, ne_eqb}
+use borrow.Author.Tests.{eqb-true, leb-true, eq-eqb}
 use Rattle.base_bits.specs.Tests.{unless}
 use Rattle.base_bits.specs.Buffer.{Put}
 use Rattle.base_bits.proofs.Cases.{yes, no, each}
+use Rattle.base_bits.proofs.Buffer.{sets_filled}
 use Rattle.base_bits.proofs.Putting.{put_filled}
+use Rattle.base_numbers.specs.declared.Refusal.{Refusal}
+use Rattle.base_numbers.specs.Numbers.{refusal_number}
+use Rattle.base_numbers.proofs.Numbers.{not_done}
 use Rattle.base_chip.specs.declared.Chip.TheVariants.{Newer}
 use Rattle.map_format.specs.Format.{version_of, count_of, flags_of, entry_size, head_size_in, head_of}
 use Rattle.map_test.specs.MapTest.{map_number}
@@ -64,18 +71,45 @@ convert_tests version m room z =
     passed k true false c e z = absurd (omega arith)
     passed k false b c e z = absurd (subst (λ (x : ℕ). eqb x 0 ≡ false → ⊥) (sym z) (λ f. true≢false f) (sym e))
 
+-- the head is the first bytes of one with a flag byte
+pub head_taken :
+    (version n : ℕ)
+    → take (head_size_in version) (length_in version n / 256 ∷ length_in version n % 256 ∷ version ∷ n / 256 ∷ n % 256 ∷ 0 ∷ []) ≡ head_bytes version n
+unfolding head_bytes
+head_taken version n =
+    let l = length_in version n in
+    go (eqb version 2) (l / 256) (l % 256) version (n / 256) (n % 256)
+  where
+    go : (b : Bool) (v w x y z : ℕ) → take (cond b 6 5) (v ∷ w ∷ x ∷ y ∷ z ∷ 0 ∷ []) ≡ v ∷ w ∷ x ∷ y ∷ z ∷ cond b (0 ∷ []) []
+    go true v w x y z = refl
+    go false v w x y z = refl
+
+-- bytes that are copied over a part of a buffer are put at the part's start
+pub put_part :
+    {old new xs : List ℕ} {at end : ℕ} → new ≡ xs → at + length xs ≤ length old → end ≡ at + length xs
+    → Put old at xs end (put_mid at (end - at) old new)
+put_part {old} {xs = xs} {at} {end} copied room e =
+    let behind : at + (end - at) ≡ at + length xs = omega (arith, e) in
+    record {
+      next_place = e;
+      buffer = rw (copied, drop-drop, behind) (sym (append_assoc (take at old) xs _)) ∙ sym (sets-eq xs old at room);
+    }
+
+-- the same at the start of a buffer
+pub put_start : {old new xs : List ℕ} {end : ℕ} → new ≡ xs → length xs ≤ length old → end ≡ length xs → Put old 0 xs end (new ++ drop end old)
+put_start {old} {xs = xs} copied room e = record { next_place = omega (arith, e); buffer = rw (copied, e) (sym (sets_filled xs old room)) }
+
 -- what a call leaves: the whole map at the start of the buffer, or the buffer as it was
 module _ (version : ℕ) (m old : List ℕ) where
   pub done :
-      (k n : ℕ) (new : List ℕ) → k ≡ convert_number version m (length old) → k ≡ 0 → Put old 0 (converted_to version m) n new
+      (n : ℕ) (new : List ℕ) → convert_number version m (length old) ≡ 0 → Put old 0 (converted_to version m) n new
       → converting 0 n new ≡ convert_of version m old
   unfolding convert_of
-  done k n new e z p =
-      let number : convert_number version m (length old) ≡ 0 = sym e ∙ z in
+  done n new number p =
       let count : n ≡ length (converted_to version m) = omega (arith, p.next_place) in
       let buffer = put_filled (convert_tests version m _ number).enough p in
       yes _ (eq-eqb _ _ number) (cc)
 
-  pub refused : (k : ℕ) → k ≡ convert_number version m (length old) → (k ≡ 0 → ⊥) → converting k 0 old ≡ convert_of version m old
+  pub refused : (e : Refusal) → refusal_number e ≡ convert_number version m (length old) → converting (refusal_number e) 0 old ≡ convert_of version m old
   unfolding convert_of
-  refused k e h = rw (← e) (no _ (ne_eqb _ _ h) refl)
+  refused e h = rw (← h) (no _ (not_done e) refl)

@@ -1,13 +1,13 @@
--- `convert` meets its contract: the number decides, and a map is put only where it is 0.
+-- `convert` meets its contract: a call that is refused leaves the buffer, and another puts the map.
+use Rattle.std.proofs.lemmas.Result.{err_from_is_err_and}
+use mathlib.Core.Path.{sym}
 use Rattle.map_convert.proofs.Laws.{done, refused}
 use Rattle.map_convert.proofs.convert.Goals as goal
 
-pub returns-then-number-eq-DONE : goal.returns-then-number-eq-DONE
-returns-then-number-eq-DONE c =
-    let a = c.args in
-    done a.wished a.map.now a.out.now _ _ _ c.number_of-number.ensures c.if-number-eq-DONE.true c.put_map-length.ensures
+pub returns-in_err-check : goal.returns-in_err-check
+returns-in_err-check c =
+    let given = err_from_is_err_and c.from_residual.result c.from_residual.ensures.1 in
+    rw (given.1, given.2) (refused _ _ _ _ c.in_err-check.ensures)
 
 pub returns : goal.returns
-returns c =
-    let a = c.args in
-    refused a.wished a.map.now a.out.now _ c.number_of-number.ensures c.if-number-eq-DONE.false
+returns c = done _ _ _ _ _ (sym c.in_ok-check.ensures) c.put_map.ensures
