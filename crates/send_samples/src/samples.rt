@@ -29,14 +29,8 @@ fn put_nibble(x: u8, out: &mut [u8], at: usize) -> usize
 {
     let zeros = (((15 - x) as u64 * SPREAD) >> 1) & LEVELS;
     let samples = ONES - zeros;
-    let mut n = at;
-    let mut i: u8 = 0;
-    while i < 8 {
-        out[n] = ((samples >> (8 * i)) % 256) as u8;
-        n += 1;
-        i += 1;
-    }
-    n
+    out[at..at + 8].copy_from_slice(&samples.to_le_bytes());
+    at + 8
 }
 
 // Puts the samples of a byte. Its bits go out highest first; where the lowest goes first, those of the turned byte.
@@ -129,11 +123,9 @@ fn put_run(
 {
     let mut address = start;
     let mut n = at;
-    let mut i: usize = 0;
-    while i < count {
+    for i in 0..count {
         n = put_byte(card, run, address, data, i, out, n);
         address = next_address(run.ascending, address);
-        i += 1;
     }
     n
 }

@@ -8,31 +8,28 @@ use Rattle.send_samples.proofs.samples.put_run.Goals as goal
 pub loop-i-init : goal.loop-i-init
 loop-i-init c =
     let pre = c.requires in
-    (omega arith, pre.start_bound, putting_begun _ _ _ pre.data_in_bounds)
+    (pre.start_bound, putting_begun _ _ _ pre.data_in_bounds)
 
 pub put_byte-n-requires : goal.put_byte-n-requires
 put_byte-n-requires c =
     let h = c.loop-i-test.true in
     let turn = next_byte c.args.run c.loop-i.address c.args.count c.loop-i.i c.args.«data».now c.requires.data_len h in
     record {
-      address_bound = (c.loop-i.invariant.1, λ t. omega (arith, h, rw t at c.requires.data_len));
-      i_in_bounds = next_fits c.loop-i.invariant.2 turn;
+      address_bound = (c.loop-i.invariant.0, λ t. omega (arith, h, rw t at c.requires.data_len));
+      i_in_bounds = next_fits c.loop-i.invariant.1 turn;
     }
-
-pub loop-i-smaller : goal.loop-i-smaller
-loop-i-smaller c = omega arith
 
 pub loop-i-preserved : goal.loop-i-preserved
 loop-i-preserved c =
     let turn =
     next_byte c.args.run c.loop-i.address c.args.count c.loop-i.i c.args.«data».now c.requires.data_len c.loop-i-test.true in
     rw c.next_address-address.ensures
-    (omega arith, next_lt c.args.run.ascending c.loop-i.address, further c.loop-i.invariant.2 turn c.put_byte-n.ensures)
+    (next_lt c.args.run.ascending c.loop-i.address, further c.loop-i.invariant.1 turn c.put_byte-n.ensures)
 
 pub shape_of-out : goal.shape_of-out
-shape_of-out c = c.loop-i.invariant.2.same
+shape_of-out c = c.loop-i.invariant.1.same
 
 pub returns : goal.returns
 returns c =
-    ended c.loop-i.invariant.2 (no_more_bytes c.args.run c.loop-i.address c.args.count
+    ended c.loop-i.invariant.1 (no_more_bytes c.args.run c.loop-i.address c.args.count
     c.loop-i.i c.args.«data».now c.requires.data_len c.loop-i-test.false)
