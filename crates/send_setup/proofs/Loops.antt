@@ -17,8 +17,9 @@ use Rattle.send_order.specs.Order.{Order}
 use Rattle.send_order.specs.Samples.{samples_of, all_samples}
 use Rattle.send_order.specs.Number.{send_number}
 use Rattle.send_order.proofs.Laws.{admitted, length_counted, room_enough}
+use Rattle.std.specs.Prelude.{None}
 use Rattle.send_setup.specs.Form.{first_listed, list_good}
-use Rattle.send_setup.specs.Look.{end_at, LookAfter}
+use Rattle.send_setup.specs.Look.{order_end, LookAfter}
 use Rattle.send_setup.specs.Calls.{most_orders, orders_of, own_number, first_bad, setup_number}
 use Rattle.send_setup.proofs.Walk.{Ends, Testing, no_end, tested_on, tested_all, ToGo, all_to_go, orders_from, order_at, orders_split, orders_end, Next, next_order, none_to_go}
 use Rattle.send_setup.proofs.Numbers.{first_bad_lem, first_good, none_bad, passed}
@@ -67,7 +68,7 @@ look_from settings l = record {
 module _ {settings : ℕ} {l : List ℕ} {n left bytes : ℕ} (s : Looking settings l n left bytes) where
   module _ (h : n < length l) where
     -- no order stands whole there, or none may
-    pub looked_14 : (more : ℕ) → 0 ≡ end_at l n left → LookAfter settings l 14 more
+    pub looked_14 : (more : ℕ) → None ≡ order_end l n left → LookAfter settings l 14 more
     looked_14 more e = record { first = no _ (sym (no_end s.form h e)) refl; all = λ k. absurd (suc-ne-zero 13 k) }
 
     module _ {end : ℕ} (f : Ends l n left end) where

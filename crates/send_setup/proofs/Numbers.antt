@@ -3,12 +3,16 @@ use mathlib.Core.Path.{◌≡◌, refl, ap, sym, ◌∙◌}
 use mathlib.Core.Bool.{Bool, true, false, cond, false≢true}
 use mathlib.Core.List.{List, ◌∷◌}
 use Prim.Native.Nat.{ℕ, suc, ◌≤◌, ◌<◌}
+use native.Mathlib.Omega.{arith}
 use native.Mathlib.Nat.{suc-ne-zero}
 use lib.ListN.{length}
 use lib.Dec.{eqb, leb}
 use borrow.Author.Tests.{leb-true, le-leb, lt-leb, ne_eqb, eqb-true}
 use Rattle.base_bits.specs.Tests.{unless}
 use Rattle.base_bits.proofs.Cases.{no}
+use Rattle.base_numbers.specs.Numbers.{refusal_number}
+use Rattle.base_numbers.specs.declared.Refusal.{Refusal}
+use Rattle.base_numbers.proofs.Numbers.{some_number}
 use Rattle.base_chip.specs.declared.Chip.TheVariants.{Newer}
 use Rattle.send_order.specs.Order.{Order}
 use Rattle.send_order.specs.Samples.{all_samples}
@@ -41,6 +45,10 @@ first_good o os z = rw z
 pub held : (test : Bool) (n next : ℕ) → unless test (suc n) next ≡ 0 → (test ≡ true) × (next ≡ 0)
 held true n next h = (refl, h)
 held false n next h = absurd (suc-ne-zero n h)
+
+-- the number of a refusal is not 0
+pub refused_some : (e : Refusal) → refusal_number e ≡ 0 → ⊥
+refused_some e z = omega (arith, some_number e, z)
 
 -- the number of a list, by what a look over it has found
 module _ (settings : ℕ) (l : List ℕ) (room number total : ℕ) (f : LookAfter settings l number total) where

@@ -13,22 +13,25 @@ use Rattle.base_bits.proofs.Cases.{and_left, and_right}
 use Rattle.send_order.specs.Order.{Order}
 use Rattle.send_setup.specs.Form.{whole_tests, first_listed, after_first, order_with, list_good, listed_of}
 use Rattle.send_setup.specs.Calls.{most_orders, orders_of}
-use Rattle.send_setup.specs.Look.{end_at}
+use Rattle.std.specs.Prelude.{Some, None}
+use Rattle.std.proofs.lemmas.Option.{none-some, cond_some}
+use Rattle.send_setup.specs.Look.{order_end}
 use Rattle.send_setup.proofs.Places.{Stands, stands, after_here}
 
--- what the place after an order tells, where it is not 0
+-- what the place after an order tells, where there is one
 pub record Ends (l : List ℕ) (n left end : ℕ) : Type 0 where
   pub some : left ≡ 0 → ⊥
   pub whole : every (whole_tests (drop n l)) ≡ true
   pub place : end ≡ n + 2 + word_at l n
 
-pub ends : (l : List ℕ) (n left end : ℕ) → end ≡ end_at l n left → (end ≡ 0 → ⊥) → Ends l n left end
-ends l n left end e z = go (eqb left 0) (every (whole_tests (drop n l))) refl refl e
+pub ends : (l : List ℕ) (n left end : ℕ) → Some end ≡ order_end l n left → Ends l n left end
+ends l n left end e = go (eqb left 0) refl e
   where
-    go : (b t : Bool) → eqb left 0 ≡ b → every (whole_tests (drop n l)) ≡ t → end ≡ cond b 0 (cond t (n + 2 + word_at l n) 0) → Ends l n left end
-    go true t f w q = absurd (z q)
-    go false false f w q = absurd (z q)
-    go false true f w q = record { some = eqb-false left 0 f; whole = w; place = q }
+    go : (b : Bool) → eqb left 0 ≡ b → Some end ≡ cond b None (cond (every (whole_tests (drop n l))) (Some (n + 2 + word_at l n)) None) → Ends l n left end
+    go true f q = absurd (none-some end (sym q))
+    go false f q =
+        let k = cond_some (every (whole_tests (drop n l))) _ end (sym q) in
+        record { some = eqb-false left 0 f; whole = k.0; place = sym k.1 }
 
 -- what is left of the list decides whether it is good
 pub record Testing (l : List ℕ) (n left : ℕ) (good : Bool) : Type 0 where
@@ -53,13 +56,14 @@ module _ {l : List ℕ} {n left : ℕ} {good : Bool} (w : Testing l n left good)
   not_whole z h t = sym (one_more z h ∙ rw t) ∙ w.rest
 
   -- where no order ends, the list is not good
-  pub no_end : n < length l → 0 ≡ end_at l n left → false ≡ good
+  pub no_end : n < length l → None ≡ order_end l n left → false ≡ good
   no_end h e = go (eqb left 0) (every (whole_tests (drop n l))) refl refl e
     where
-      go : (b t : Bool) → eqb left 0 ≡ b → every (whole_tests (drop n l)) ≡ t → 0 ≡ cond b 0 (cond t (n + 2 + word_at l n) 0) → false ≡ good
+      go : (b t : Bool) → eqb left 0 ≡ b → every (whole_tests (drop n l)) ≡ t → None ≡ cond b None (cond t (Some (n + 2 + word_at l n)) None)
+          → false ≡ good
       go true t f w q = too_many h (eqb-true left 0 f)
       go false false f w q = not_whole (eqb-false left 0 f) h w
-      go false true f w q = absurd (omega arith)
+      go false true f w q = absurd (none-some _ q)
 
   pub tested_on : (left ≡ 0 → ⊥) → n < length l → every (whole_tests (drop n l)) ≡ true → Testing l (n + 2 + word_at l n) (left - 1) good
   tested_on z h t = record { within = (stands l n t).within; rest = sym (one_more z h ∙ rw (t, after_here l n)) ∙ w.rest }

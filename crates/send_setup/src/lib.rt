@@ -5,8 +5,7 @@ ghost use Rattle.std.specs.Prelude.{◌≡◌, true, ◌+◌, ◌≤◌, length,
 ghost use Rattle.base_bits.specs.Buffer.{Put};
 ghost use Rattle.base_bits.specs.Bytes.{word_at};
 ghost use Rattle.base_bits.specs.Tests.{every, unless};
-ghost use Rattle.base_numbers.specs.Numbers.{bad_list};
-ghost use Rattle.base_card.specs.Card.{IsCard};
+ghost use Rattle.base_numbers.specs.Numbers.{bad_list, refusal_number, number_of, amount_of};
 ghost use Rattle.base_chip.specs.declared.Chip.TheVariants.{Newer};
 ghost use Rattle.send_order.specs.Samples.{samples_of, all_samples};
 ghost use Rattle.send_order.specs.Number.{send_number};
@@ -17,13 +16,13 @@ ghost use Rattle.send_setup.specs.Look.{LookAfter};
 
 mod list;
 
-use base_card::CARD;
+use base_card::Card;
 use base_chip::Chip;
-use base_numbers::{BAD_LIST, DONE, LONG_SETUP, SHORT_OUT};
+use base_numbers::Refusal;
 pub use list::{DATA_AT, LEAST_LENGTH, VERSION};
 use list::{MOST_ORDERS, after, count_at, end_at, order_at};
-use send_order::{number_of, sample_count};
-use send_samples::{Sent, put_samples};
+use send_order::{check, sample_count};
+use send_samples::put_samples;
 
 // The most samples of a whole setup.
 const MOST_SAMPLES: usize = 65536;
@@ -31,17 +30,18 @@ const MOST_SAMPLES: usize = 65536;
 // More than an order can need, whatever its count says: the compiler then drops the test for it.
 const ROOM_FOR_ANY: usize = 0x40_0000;
 
-// The number of the order at a place of the list, by itself, with the place after it.
-fn number_at(settings: u64, list: &[u8], at: usize, end: usize) -> u8
+// Whether the order at a place of the list is refused by itself; the place after it is given.
+fn check_at(settings: u64, list: &[u8], at: usize, end: usize) -> Result<(), Refusal>
     requires { (every (whole_tests (drop at list.now)) ≡ true) × (end ≡ at + 2 + word_at list.now at) }
-    ensures { result ≡ own_number (order_with settings (first_listed (drop at list.now))) }
+    ensures { number_of result ≡ own_number (order_with settings (first_listed (drop at list.now))) }
 {
     let from = at + DATA_AT;
     let order = order_at(settings, list, at);
-    number_of(Chip::Newer, order, &list[from..end], ROOM_FOR_ANY)
+    check(Chip::Newer, order, &list[from..end], ROOM_FOR_ANY)
 }
 
-// Whether whole orders stand from a place on, up to so many, and nothing after them.
+// Whether whole orders stand from a place on, up to so many, and nothing after them. No range counts the turns of this walk and of the two
+// below: each order tells where the next one stands.
 fn good_from(list: &[u8], from: usize, most: u8) -> bool
     requires { from ≤ length list.now }
     ensures { result ≡ list_good most (drop from list.now) }
@@ -49,104 +49,72 @@ fn good_from(list: &[u8], from: usize, most: u8) -> bool
     let mut at = from;
     let mut left = most;
     while at < list.len() {
-        let end = end_at(list, at, left);
-        if end == 0 {
+        let Some(end) = end_at(list, at, left) else {
             return false;
-        }
+        };
         at = end;
         left -= 1;
     }
     true
 }
 
-// What a look over the list finds: 14, or the number of the first bad order, or 0; and then how many samples all orders take.
-#[derive(Clone, Copy)]
-struct Looked {
-    number: u8,
-    total: usize,
-}
-
-// What is found where a number is not 0: that number, or 14 for what comes after it.
-fn stopped(bad: u8, list: &[u8], at: usize, left: u8) -> Looked
+// The refusal of a list whose first bad order is refused: that, or 14 for what comes after it.
+fn stopped(bad: Refusal, list: &[u8], at: usize, left: u8) -> Refusal
     requires { at ≤ length list.now }
-    ensures { result.number ≡ unless (list_good left (drop at list.now)) bad_list bad }
+    ensures { refusal_number result ≡ unless (list_good left (drop at list.now)) bad_list (refusal_number bad) }
 {
     if good_from(list, at, left) {
-        return Looked {
-            number: bad,
-            total: 0,
-        };
-    }
-    Looked {
-        number: BAD_LIST,
-        total: 0,
+        bad
+    } else {
+        Refusal::BadList
     }
 }
 
-// Looks over the list in one walk, up to the first bad order, and changes nothing. Single instruction is read from the settings number
-// as it is: with an empty list that may be any.
-fn look_over(settings: u64, list: &[u8]) -> Looked
-    ensures { LookAfter settings list.now result.number result.total }
+// Looks over the list in one walk, up to the first bad order, and changes nothing: how many samples all orders take. Single instruction
+// is read from the settings number as it is: with an empty list that may be any.
+fn look_over(settings: u64, list: &[u8]) -> Result<usize, Refusal>
+    ensures { LookAfter settings list.now (number_of result) (amount_of result) }
 {
     let mut at: usize = 0;
     let mut left: u8 = MOST_ORDERS;
     let mut bytes: usize = 0;
     while at < list.len() {
-        let end = end_at(list, at, left);
-        if end == 0 {
-            return Looked {
-                number: BAD_LIST,
-                total: 0,
-            };
-        }
-        let bad = number_at(settings, list, at, end);
-        if bad != DONE {
-            return stopped(bad, list, at, left);
+        let Some(end) = end_at(list, at, left) else {
+            return Err(Refusal::BadList);
+        };
+        if let Err(bad) = check_at(settings, list, at, end) {
+            return Err(stopped(bad, list, at, left));
         }
         bytes += count_at(list, at);
         at = end;
         left -= 1;
     }
-    Looked {
-        number: DONE,
-        total: sample_count(
-            (settings >> 2) % 2 == 1,
-            (MOST_ORDERS - left) as usize,
-            bytes,
-        ),
-    }
+    Ok(sample_count(
+        (settings >> 2) % 2 == 1,
+        (MOST_ORDERS - left) as usize,
+        bytes,
+    ))
 }
 
-// The number of a setup with so much room.
-fn setup_number(settings: u64, list: &[u8], room: usize) -> u8
-    ensures { result ≡ setup_number settings list.now room }
+// Whether a setup with so much room is refused.
+fn check_setup(settings: u64, list: &[u8], room: usize) -> Result<(), Refusal>
+    ensures { number_of result ≡ setup_number settings list.now room }
 {
-    let looked = look_over(settings, list);
-    if looked.number != DONE {
-        return looked.number;
-    }
-    let long = MOST_SAMPLES < looked.total;
+    let total = look_over(settings, list)?;
+    let long = MOST_SAMPLES < total;
     if long {
-        return LONG_SETUP;
+        return Err(Refusal::LongSetup);
     }
-    if room < looked.total {
-        return SHORT_OUT;
+    if room < total {
+        return Err(Refusal::ShortOut);
     }
-    DONE
+    Ok(())
 }
 
 // Puts the samples of the order at a place of the list into the part of the buffer from n on, and gives the place after them.
-fn send_at(
-    card: &[u8; 16],
-    settings: u64,
-    list: &[u8],
-    at: usize,
-    out: &mut [u8],
-    n: usize,
-) -> usize
+fn send_at(card: &Card, settings: u64, list: &[u8], at: usize, out: &mut [u8], n: usize) -> usize
     requires list_value { (every (whole_tests (drop at list.now)) ≡ true) × (n ≤ length out.old) }
     requires out_value { send_number Newer (order_with settings (first_listed (drop at list.now))) (length (drop n out.old)) ≡ 0 }
-    requires card { IsCard card.now }
     ensures { Put out.old n (samples_of Newer (order_with settings (first_listed (drop at list.now)))) result out.new }
 {
     let from = at + DATA_AT;
@@ -161,7 +129,7 @@ fn send_all(settings: u64, list: &[u8], out: &mut [u8]) -> usize
     requires { setup_number settings list.now (length out.old) ≡ 0 }
     ensures { Put out.old 0 (all_samples Newer (orders_of settings list.now)) result out.new }
 {
-    let card = CARD;
+    let card = Card::new();
     let mut at: usize = 0;
     let mut n: usize = 0;
     while at < list.len() {
@@ -172,20 +140,11 @@ fn send_all(settings: u64, list: &[u8], out: &mut [u8]) -> usize
     n
 }
 
-// Puts the samples of all orders of a list at the start of the outgoing buffer. A refusal leaves the buffer as it was.
-pub fn send_setup(settings: u64, list: &[u8], out: &mut [u8]) -> Sent
-    ensures { sending result.number result.count out.new ≡ setup_of settings list.now out.old }
+// Puts the samples of all orders of a list at the start of the outgoing buffer, and tells how many they are. A refusal leaves the buffer
+// as it was.
+pub fn send_setup(settings: u64, list: &[u8], out: &mut [u8]) -> Result<usize, Refusal>
+    ensures { sending (number_of result) (amount_of result) out.new ≡ setup_of settings list.now out.old }
 {
-    let number = setup_number(settings, list, out.len());
-    if number == DONE {
-        let samples = send_all(settings, list, out);
-        return Sent {
-            number: DONE,
-            count: samples,
-        };
-    }
-    Sent {
-        number: number,
-        count: 0,
-    }
+    check_setup(settings, list, out.len())?;
+    Ok(send_all(settings, list, out))
 }

@@ -4,7 +4,7 @@ ghost use Rattle.base_bits.specs.Bytes.{word_at};
 ghost use Rattle.base_bits.specs.Tests.{every};
 ghost use Rattle.send_order.specs.Order.{with_data};
 ghost use Rattle.send_setup.specs.Form.{whole_tests, first_listed, order_with};
-ghost use Rattle.send_setup.specs.Look.{end_at};
+ghost use Rattle.send_setup.specs.Look.{order_end};
 
 use send_order::Order;
 
@@ -29,27 +29,27 @@ fn word_at(list: &[u8], at: usize) -> usize
     requires { at + 2 ≤ length list.now }
     ensures { result ≡ word_at list.now at }
 {
-    list[at] as usize * 256 + list[at + 1] as usize
+    u16::from_be_bytes([list[at], list[at + 1]]) as usize
 }
 
-// The place after the order at a place, where so many orders may stand: 0 where none may, or none stands whole. It is worked out before
-// the tests: a walk waits for it, and for none of them.
-pub fn end_at(list: &[u8], at: usize, left: u8) -> usize
+// The place after the order at a place, where so many orders may stand, if one may and stands whole. It is worked out before the tests:
+// a walk waits for it, and for none of them.
+pub fn end_at(list: &[u8], at: usize, left: u8) -> Option<usize>
     requires { at ≤ length list.now }
-    ensures { result ≡ end_at list.now at left }
+    ensures { result ≡ order_end list.now at left }
 {
     if left == 0 {
-        return 0;
+        return None;
     }
     if list.len() - at < LEAST_SIZE {
-        return 0;
+        return None;
     }
     let size = word_at(list, at);
     let end = at + LENGTH_SIZE + size;
     if (LEAST_LENGTH <= size) & (end <= list.len()) & (list[at + 2] == VERSION) {
-        return end;
+        return Some(end);
     }
-    0
+    None
 }
 
 // The place after the order that stands at a place.
@@ -75,7 +75,7 @@ pub fn order_at(settings: u64, list: &[u8], at: usize) -> Order
 {
     Order {
         direction: list[at + 3] as u64,
-        settings: settings,
+        settings,
         start: word_at(list, at + 4) as u64,
         count: count_at(list, at) as u64,
     }

@@ -1,6 +1,5 @@
 -- `send_all` meets its contract: what is put, with the orders still to go, is the whole.
 use native.Mathlib.Omega.{arith}
-use Rattle.base_card.proofs.Entries.{is_card}
 use Rattle.send_setup.proofs.Walk.{whole_next, stands_next}
 use Rattle.send_setup.proofs.Loops.{send_from, next_room, next_number_lem, sent_on, sent_all}
 use Rattle.send_setup.proofs.send_all.Goals as goal
@@ -18,7 +17,6 @@ send_at-n-requires c =
     record {
       list_value = (whole_next i.to_go h, omega (arith, next_room i h));
       out_value = next_number_lem i h;
-      card = is_card;
     }
 
 pub loop-at-smaller : goal.loop-at-smaller

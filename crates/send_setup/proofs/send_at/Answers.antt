@@ -46,7 +46,6 @@ put_samples-requires c =
           ap (λ (o : Order). send_number Newer o (length part)) same_order
           ∙ ap (λ (l : List ℕ). send_number Newer (order_at a.settings a.list.now a.at) (length l)) (rest_part a.out.now a.n)
           ∙ c.requires.out_value;
-      card = c.requires.card;
     }
 
 pub overflow_add-result : goal.overflow_add-result

@@ -6,5 +6,5 @@ use Rattle.send_setup.proofs.stopped.Goals as goal
 pub returns-then-good_from : goal.returns-then-good_from
 returns-then-good_from c = yes _ (sym c.good_from.ensures ∙ c.if-good_from.true) refl
 
-pub returns : goal.returns
-returns c = no _ (sym c.good_from.ensures ∙ c.if-good_from.false) refl
+pub returns-else-good_from : goal.returns-else-good_from
+returns-else-good_from c = no _ (sym c.good_from.ensures ∙ c.if-good_from.false) refl
