@@ -1,19 +1,15 @@
 -- Laws of the converter: how many bytes it makes, and what number 0 says of its map.
 use mathlib.Core.Path.{◌≡◌, refl, ap, sym, ◌∙◌, subst}
 use mathlib.Core.Bool.{Bool, true, false, cond, ◌||◌, true≢false}
-use mathlib.Core.List.{List, [], ◌∷◌, ◌++◌}
-use Prim.Native.Nat.{ℕ, ◌+◌, ◌-◌, ◌*◌, ◌/◌, ◌%◌, ◌≤◌}
+use mathlib.Core.List.{List, [], ◌∷◌}
+use Prim.Native.Nat.{ℕ, ◌+◌, ◌*◌, ◌/◌, ◌%◌, ◌≤◌}
 use native.Mathlib.Omega.{arith}
 use lib.ListN.{length, take, drop, length-append, length-drop}
-use Rattle.std.proofs.Common.{append_assoc}
-use borrow.Rule.Slice.PartMut.{put_mid}
-use lib.Seq.{sets-eq, drop-drop}
 use lib.Dec.{eqb, leb}
 use borrow.Author.Tests.{eqb-true, leb-true, eq-eqb}
 use Rattle.base_bits.specs.Tests.{unless}
 use Rattle.base_bits.specs.Buffer.{Put}
 use Rattle.base_bits.proofs.Cases.{yes, no, each}
-use Rattle.base_bits.proofs.Buffer.{sets_filled}
 use Rattle.base_bits.proofs.Putting.{put_filled}
 use Rattle.base_numbers.specs.declared.Refusal.{Refusal}
 use Rattle.base_numbers.specs.Numbers.{refusal_number}
@@ -83,21 +79,6 @@ head_taken version n =
     go : (b : Bool) (v w x y z : ℕ) → take (cond b 6 5) (v ∷ w ∷ x ∷ y ∷ z ∷ 0 ∷ []) ≡ v ∷ w ∷ x ∷ y ∷ z ∷ cond b (0 ∷ []) []
     go true v w x y z = refl
     go false v w x y z = refl
-
--- bytes that are copied over a part of a buffer are put at the part's start
-pub put_part :
-    {old new xs : List ℕ} {at end : ℕ} → new ≡ xs → at + length xs ≤ length old → end ≡ at + length xs
-    → Put old at xs end (put_mid at (end - at) old new)
-put_part {old} {xs = xs} {at} {end} copied room e =
-    let behind : at + (end - at) ≡ at + length xs = omega (arith, e) in
-    record {
-      next_place = e;
-      buffer = rw (copied, drop-drop, behind) (sym (append_assoc (take at old) xs _)) ∙ sym (sets-eq xs old at room);
-    }
-
--- the same at the start of a buffer
-pub put_start : {old new xs : List ℕ} {end : ℕ} → new ≡ xs → length xs ≤ length old → end ≡ length xs → Put old 0 xs end (new ++ drop end old)
-put_start {old} {xs = xs} copied room e = record { next_place = omega (arith, e); buffer = rw (copied, e) (sym (sets_filled xs old room)) }
 
 -- what a call leaves: the whole map at the start of the buffer, or the buffer as it was
 module _ (version : ℕ) (m old : List ℕ) where

@@ -1,15 +1,18 @@
 -- Laws of mending: what number 0 says of the map and the list, and what a call leaves.
-use mathlib.Core.Path.{◌≡◌, refl, sym, ◌∙◌}
+use mathlib.Core.Path.{◌≡◌, refl}
 use mathlib.Core.Bool.{Bool, true, false}
 use mathlib.Core.List.{List}
 use Prim.Native.Nat.{ℕ, ◌≤◌}
 use native.Mathlib.Omega.{arith}
 use lib.ListN.{length}
 use lib.Dec.{leb}
-use borrow.Author.Tests.{eq-eqb, ne_eqb, leb-true}
+use borrow.Author.Tests.{eq-eqb, leb-true}
 use Rattle.base_bits.specs.Tests.{every, unless}
 use Rattle.base_bits.proofs.Cases.{yes, no}
 use Rattle.base_bits.proofs.Putting.{put_filled}
+use Rattle.base_numbers.specs.declared.Refusal.{Refusal}
+use Rattle.base_numbers.specs.Numbers.{refusal_number}
+use Rattle.base_numbers.proofs.Numbers.{not_done}
 use Rattle.map_test.specs.MapTest.{form_tests, Formed, product_good}
 use Rattle.map_test.proofs.Laws.{formed}
 use Rattle.map_mend.specs.Mend.{altered_of, mend_number, MendedEntries, mending, mend_of}
@@ -38,15 +41,14 @@ is_formed m room z = formed m (mend_tests m room z).form
 -- what a call leaves: the mended map and its list, or both as they were
 module _ (m old : List ℕ) where
   pub done :
-      (k n : ℕ) (m' new : List ℕ) → k ≡ mend_number m (length old) → k ≡ 0 → MendedEntries m old n m' new
+      (n : ℕ) (m' new : List ℕ) → mend_number m (length old) ≡ 0 → MendedEntries m old n m' new
       → mending 0 n m' new ≡ mend_of m old
   unfolding mend_of
-  done k n m' new e z p =
-      let number : mend_number m (length old) ≡ 0 = sym e ∙ z in
+  done n m' new number p =
       let count : n ≡ length (altered_of m) = omega (arith, p.listed.next_place) in
       let list = put_filled (mend_tests m _ number).fits p.listed in
       yes _ (eq-eqb _ _ number) (cc p.map_after)
 
-  pub refused : (k : ℕ) → k ≡ mend_number m (length old) → (k ≡ 0 → ⊥) → mending k 0 m old ≡ mend_of m old
+  pub refused : (e : Refusal) → refusal_number e ≡ mend_number m (length old) → mending (refusal_number e) 0 m old ≡ mend_of m old
   unfolding mend_of
-  refused k e h = rw (← e) (no _ (ne_eqb _ _ h) refl)
+  refused e h = rw (← h) (no _ (not_done e) refl)

@@ -27,17 +27,13 @@ fn clear(entry: Entry) -> Entry
 {
     if (entry.kind == BLANK) | (entry.kind == CONTROL) {
         return Entry {
-            kind: entry.kind,
             mask: 0,
             default: 0,
+            ..entry
         };
     }
     if entry.kind == READ_ONLY {
-        return Entry {
-            kind: entry.kind,
-            mask: 0,
-            default: entry.default,
-        };
+        return Entry { mask: 0, ..entry };
     }
     entry
 }
@@ -46,28 +42,23 @@ fn clear(entry: Entry) -> Entry
 fn with_fixed_bytes(address: usize, entry: Entry) -> Entry
     ensures { result ≡ with_fixed_bytes address entry }
 {
-    let vendor = b"\x56\x04";
-    let low = vendor[0];
-    let high = vendor[1];
+    let [low, high] = *b"\x56\x04";
     if address == SCRATCH_PLACE {
         return Entry {
-            kind: entry.kind,
             mask: SCRATCH_MASK,
-            default: entry.default,
+            ..entry
         };
     }
     if address == VENDOR_LOW_PLACE {
         return Entry {
-            kind: entry.kind,
-            mask: entry.mask,
             default: low,
+            ..entry
         };
     }
     if address == VENDOR_HIGH_PLACE {
         return Entry {
-            kind: entry.kind,
-            mask: entry.mask,
             default: high,
+            ..entry
         };
     }
     entry
@@ -79,8 +70,7 @@ pub fn mended(address: usize, entry: Entry) -> Entry
 {
     let placed = Entry {
         kind: mended_kind(address, entry.kind),
-        mask: entry.mask,
-        default: entry.default,
+        ..entry
     };
     with_fixed_bytes(address, clear(placed))
 }
@@ -90,5 +80,5 @@ pub fn is_altered(address: usize, entry: Entry) -> bool
     ensures { result ≡ not (same_entry (mended_at address entry) entry) }
 {
     let new = mended(address, entry);
-    !((new.kind == entry.kind) & (new.mask == entry.mask) & (new.default == entry.default))
+    new != entry
 }

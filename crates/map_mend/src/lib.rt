@@ -4,26 +4,20 @@
 ghost use Rattle.std.specs.Prelude.{◌≡◌, ◌+◌, ◌<◌, ◌≤◌, length};
 ghost use Rattle.std.proofs.lemmas.List.Edits.{sets};
 ghost use Rattle.base_bits.specs.Buffer.{Put};
+ghost use Rattle.base_numbers.specs.Numbers.{number_of, amount_of};
 ghost use Rattle.map_format.specs.Format.{most_count, entry_start};
 ghost use Rattle.map_test.specs.MapTest.{Formed};
 ghost use Rattle.map_mend.specs.Mend.{entry_bytes, altered_at, altered_of, mend_number, MendedEntries, mending, mend_of};
 
 mod entry;
 
-use base_numbers::{BAD_MAP_FORM, BAD_PRODUCT, DONE, SHORT_RECORDS};
+use base_numbers::Refusal;
 use entry::{is_altered, mended};
 use map_format::{ENTRY_SIZE, Entry, count, entry_at, head};
 use map_test::{form_good, product_good};
 
 // The bytes that an altered entry has in the list: its address and the entry as it was.
 const LISTED_SIZE: usize = 2 + ENTRY_SIZE;
-
-// What a call of mending answers: the number, and how many bytes it listed.
-#[derive(Clone, Copy)]
-pub struct Mended {
-    pub number: u8,
-    pub length: usize,
-}
 
 // How many bytes of the list an entry takes.
 fn listed_size(address: usize, entry: Entry) -> usize
@@ -43,28 +37,26 @@ fn list_length(map: &[u8]) -> usize
 {
     let n = count(map);
     let mut length = 0;
-    let mut address = 0;
-    while address < n {
+    for address in 0..n {
         length += listed_size(address, entry_at(map, n, address));
-        address += 1;
     }
     length
 }
 
-// The number of a call: 2 for the form, 18 for the product number, 6 for a list that is too long for its room.
-fn number_of(map: &[u8], room: usize) -> u8
-    ensures { result ≡ mend_number map.now room }
+// Whether a call may be made: refused by 2 for the form, by 18 for the product number, by 6 for a list that is too long for its room.
+fn check(map: &[u8], room: usize) -> Result<(), Refusal>
+    ensures { number_of result ≡ mend_number map.now room }
 {
-    if form_good(map) {
-        if product_good(map) {
-            if room < list_length(map) {
-                return SHORT_RECORDS;
-            }
-            return DONE;
-        }
-        return BAD_PRODUCT;
+    if !form_good(map) {
+        return Err(Refusal::BadMapForm);
     }
-    BAD_MAP_FORM
+    if !product_good(map) {
+        return Err(Refusal::BadProduct);
+    }
+    if room < list_length(map) {
+        return Err(Refusal::ShortRecords);
+    }
+    Ok(())
 }
 
 // Puts an entry, if mending alters it, at a place of the list; the place after it.
@@ -73,12 +65,10 @@ fn put_listed(list: &mut [u8], at: usize, address: usize, entry: Entry) -> usize
     ensures { Put list.old at (altered_at address entry) result list.new }
 {
     if is_altered(address, entry) {
-        list[at] = (address / 256) as u8;
-        list[at + 1] = (address % 256) as u8;
-        list[at + 2] = entry.kind;
-        list[at + 3] = entry.mask;
-        list[at + 4] = entry.default;
-        return at + LISTED_SIZE;
+        let end = at + LISTED_SIZE;
+        let [high, low] = u16::to_be_bytes(address as u16);
+        list[at..end].copy_from_slice(&[high, low, entry.kind, entry.mask, entry.default]);
+        return end;
     }
     at
 }
@@ -89,9 +79,7 @@ fn put_entry(map: &mut [u8], address: usize, entry: Entry)
     ensures { map.new ≡ sets map.old (entry_start map.old address) (entry_bytes entry) }
 {
     let at = head(map) + ENTRY_SIZE * address;
-    map[at] = entry.kind;
-    map[at + 1] = entry.mask;
-    map[at + 2] = entry.default;
+    map[at..at + ENTRY_SIZE].copy_from_slice(&[entry.kind, entry.mask, entry.default]);
 }
 
 // Mends the entries of a map that is not refused, and lists those that it alters; how many bytes of the list they are.
@@ -101,31 +89,20 @@ fn mend_entries(map: &mut [u8], list: &mut [u8]) -> usize
 {
     let n = count(map);
     let mut length = 0;
-    let mut address = 0;
-    while address < n {
+    for address in 0..n {
         let old = entry_at(map, n, address);
         let new = mended(address, old);
         length = put_listed(list, length, address, old);
         put_entry(map, address, new);
-        address += 1;
     }
     length
 }
 
-// Corrects a map in its own bytes, and lists each entry that it alters at the start of the list. A refusal leaves both as they were.
-pub fn mend(map: &mut [u8], list: &mut [u8]) -> Mended
-    ensures { mending result.number result.length map.new list.new ≡ mend_of map.old list.old }
+// Corrects a map in its own bytes, and lists each entry that it alters at the start of the list; how many bytes of it they are.
+// A refusal leaves both as they were.
+pub fn mend(map: &mut [u8], list: &mut [u8]) -> Result<usize, Refusal>
+    ensures { mending (number_of result) (amount_of result) map.new list.new ≡ mend_of map.old list.old }
 {
-    let number = number_of(map, list.len());
-    if number == DONE {
-        let length = mend_entries(map, list);
-        return Mended {
-            number: DONE,
-            length: length,
-        };
-    }
-    Mended {
-        number: number,
-        length: 0,
-    }
+    check(map, list.len())?;
+    Ok(mend_entries(map, list))
 }

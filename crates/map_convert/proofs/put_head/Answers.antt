@@ -6,7 +6,8 @@ use lib.ListN.{length, get_or}
 use Rattle.std.proofs.lemmas.List.{length-take-le}
 use Rattle.map_format.proofs.Laws.{head_size_bounds}
 use Rattle.map_convert.specs.Convert.{length_in}
-use Rattle.map_convert.proofs.Laws.{length_head, head_taken, put_start}
+use Rattle.map_format.proofs.Parts.{put_start}
+use Rattle.map_convert.proofs.Laws.{length_head, head_taken}
 use Rattle.map_convert.proofs.put_head.Goals as goal
 
 pub slice_bounds-copy_from_slice-end : goal.slice_bounds-copy_from_slice-end

@@ -3,7 +3,7 @@ use mathlib.Core.Path.{◌∙◌}
 use native.Mathlib.Omega.{arith}
 use lib.ListN.{length-drop}
 use Rattle.base_bits.proofs.Buffer.{from_on}
-use Rattle.map_convert.proofs.Laws.{put_part}
+use Rattle.map_format.proofs.Parts.{put_part}
 use Rattle.map_convert.proofs.put_rest.Goals as goal
 
 pub returns : goal.returns

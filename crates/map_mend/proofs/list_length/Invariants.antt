@@ -1,9 +1,5 @@
-use Prim.Native.Nat.{◌-◌}
 use Rattle.map_mend.proofs.Listed.{ListCounting}
 use Rattle.map_mend.proofs.list_length.Given as goal
 
 abbrev pub invariant-loop-address : goal.invariant-loop-address
 invariant-loop-address l = ListCounting l.map l.n l.length l.address
-
-abbrev pub decreases-loop-address : goal.decreases-loop-address
-decreases-loop-address l = l.n - l.address

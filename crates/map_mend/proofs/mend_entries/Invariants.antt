@@ -1,9 +1,5 @@
-use Prim.Native.Nat.{◌-◌}
 use Rattle.map_mend.proofs.Halfway.{Halfway}
 use Rattle.map_mend.proofs.mend_entries.Given as goal
 
 abbrev pub invariant-loop-address : goal.invariant-loop-address
 invariant-loop-address l = Halfway l.initial.map l.initial.list l.map l.list l.length l.address
-
-abbrev pub decreases-loop-address : goal.decreases-loop-address
-decreases-loop-address l = l.n - l.address

@@ -1,25 +1,15 @@
--- `put_entry` meets its contract: a store for each byte of the entry, one after the other, from the place where it begins.
-use mathlib.Core.Path.{◌≡◌}
-use Prim.Native.Nat.{suc, ◌+◌, ◌*◌, ◌≤◌}
+-- `put_entry` meets its contract: the entry's bytes are copied over as many of the map, from the place where it begins.
+use mathlib.Core.Path.{refl, ap, ◌∙◌}
+use Prim.Native.Nat.{ℕ, ◌+◌, ◌*◌}
 use native.Mathlib.Omega.{arith}
-use lib.ListN.{length, length-set}
+use lib.Seq.{sets}
+use Rattle.map_format.proofs.Parts.{put_part}
+use Rattle.map_mend.specs.Mend.{entry_bytes}
 use Rattle.map_mend.proofs.put_entry.Goals as goal
-
-pub bounds-map-at-2 : goal.bounds-map-at-2
-bounds-map-at-2 c =
-    let room : c.head.result + 3 * c.args.address + 3 ≤ length c.args.map.now =
-    omega (arith, c.head.ensures, c.requires.1) in
-    simp length-set (omega (arith, room))
-
-pub bounds-map-at-3 : goal.bounds-map-at-3
-bounds-map-at-3 c =
-    let room : c.head.result + 3 * c.args.address + 3 ≤ length c.args.map.now =
-    omega (arith, c.head.ensures, c.requires.1) in
-    simp length-set (omega (arith, room))
 
 pub returns : goal.returns
 returns c =
-    let at = c.head.result + 3 * c.args.address in
-    let e1 : at + 1 ≡ suc at = omega arith in
-    let e2 : at + 2 ≡ suc (suc at) = omega arith in
-    rw (e1, e2, c.head.ensures)
+    let a = c.args in
+    (put_part {old = a.map.now} {xs = entry_bytes a.entry} {at = c.head.result + 3 * a.address} c.copy_from_slice.ensures.after
+    (omega (arith, c.head.ensures, c.requires.1)) refl).buffer
+    ∙ ap (λ (h : ℕ). sets a.map.now (h + 3 * a.address) (entry_bytes a.entry)) c.head.ensures
