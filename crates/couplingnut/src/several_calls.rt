@@ -4,7 +4,7 @@ ghost use Rattle.several_chips.specs.Numbers.{several_record_size};
 ghost use Rattle.several_chips.specs.Calls.{several_outcome, several_of};
 
 use several_chips::{Member, RECORD};
-use several_read::{gather, step_all};
+use several_read::step_all;
 use several_refusals::several_refusal;
 
 // The number of a call, and how many records it gave, from their bytes.
@@ -29,8 +29,7 @@ pub extern "C" fn couplingnut_read_several(
     ensures { several_outcome result chips.new memory.new count.new records.new
         ≡ several_of map.now chips.old memory.old samples.now records.old }
 {
-    let group = gather(chips);
-    let number = several_refusal(map, group, memory.len(), samples, records.len());
+    let number = several_refusal(map, chips, memory.len(), samples, records.len());
     let size = step_all(map, chips, memory, samples, records, number);
     told(number, size, count)
 }

@@ -1,4 +1,3 @@
-mod Gathering
 mod Resume
 mod Turns
 mod Reached

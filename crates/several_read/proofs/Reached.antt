@@ -55,12 +55,12 @@ module _ (m : List ℕ) (ws : List Member) (mem bytes old : List ℕ) (number : 
   ok : number ≡ 0 → SeveralTests m ws (length mem) bytes (length old)
   ok z = several_tests m ws (length mem) bytes (length old) (sym known ∙ z)
 
-  pub turns_begun : AllBytes ws → At (turn 0 0 0) ws mem old
+  pub turns_begun : (number ≡ 0 → AllBytes ws) → At (turn 0 0 0) ws mem old
   turns_begun small = record {
     same = refl;
     same_memory = refl;
     same_records = refl;
-    going = λ z. going_begun m ws mem bytes old (ok z) small;
+    going = λ z. going_begun m ws mem bytes old (ok z) (small z);
     refused = λ z. (refl, (refl, (refl, refl)));
   }
 

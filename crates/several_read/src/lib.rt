@@ -1,15 +1,12 @@
 // The loop over the lent list of chips: a turn for each chip at each sample, on the list itself.
 #![tactic(auto)]
 
-mod copies;
-
 ghost use Rattle.std.specs.Prelude.{◌≡◌, ◌/◌, cond, eqb, length};
 ghost use Rattle.several_chips.specs.Promises.{turn, AllBytes};
 ghost use Rattle.several_chips.specs.Numbers.{several_number, several_record_size};
 ghost use Rattle.several_chips.specs.Calls.{several_outcome, several_of};
 
 use base_numbers::DONE;
-pub use copies::gather;
 use several_chips::{Member, Turn, step_member};
 
 // The first turn.
@@ -42,12 +39,14 @@ pub fn step_all(
     records: &mut [u8],
     number: u8,
 ) -> usize
-    requires { (number ≡ several_number map.now members.old (length memory.old) samples.now (length records.old)) × AllBytes members.old }
+    requires number { number ≡ several_number map.now members.old (length memory.old) samples.now (length records.old) }
+    requires bytes { number ≡ 0 → AllBytes members.old }
     ensures { several_outcome number members.new memory.new (result / several_record_size) records.new
         ≡ several_of map.now members.old memory.old samples.now records.old }
 {
     let end = samples_to_read(number, samples.len());
     let mut turn = first_turn();
+    // No plainer as a `for`: what goes on is the turn, to the next chip or to the next sample.
     while turn.sample < end {
         let chip = turn.chip;
         let member = members[chip];

@@ -1,47 +1,45 @@
--- Samples of two bytes, by their place.
-use mathlib.Core.Path.{◌≡◌, refl, sym, ap, ◌∙◌}
-use mathlib.Core.Bool.{Bool, true, false, ◌&&◌, and_assoc}
-use mathlib.Core.List.{List}
-use Prim.Native.Nat.{ℕ, ◌+◌, ◌*◌, ◌/◌, ◌%◌, ◌^◌, ◌<◌, ◌≤◌}
-use native.Mathlib.Nat.{one-mul}
+-- Samples of two bytes, as they are cut off the bytes that are left.
+use mathlib.Core.Path.{◌≡◌, refl, sym, ◌∙◌}
+use mathlib.Core.Bool.{Bool, true, false, ◌&&◌, and_assoc, and-true}
+use mathlib.Core.List.{List, [], ◌∷◌, ◌++◌}
+use Prim.Native.Nat.{ℕ, ◌*◌, ◌%◌, ◌<◌, ◌≤◌}
 use native.Mathlib.Omega.{arith}
 use borrow.Author.Tests.{leb-true}
 use lib.Dec.{eqb, leb}
-use lib.ListN.{length, get_or, drop}
-use lib.Pow.{pow_pos, pow_mono, shl_exact}
+use lib.ListN.{length, get_or}
 use Rattle.base_bits.proofs.Cases.{and_left, and_right}
-use Rattle.several_chips.specs.Samples.{samples_in, sample_good, all_good}
+use Rattle.several_chips.specs.Samples.{Sample, sample, samples_in, sample_good, all_good}
 use Rattle.several_chips.specs.Numbers.{several_samples_good}
-use Rattle.several_chips.specs.Promises.{sample_at}
-use Rattle.several_chips.proofs.Samples.{sample_count, sample_here, good_at}
-use Rattle.several_refusals.proofs.Passing.{one_more, all_passed}
 
--- the power of two of up to eight chips
-pub chips_power : (chips : ℕ) → chips ≤ 8 → (1 ≤ 2 ^ chips) × (2 ^ chips ≤ 256)
-chips_power chips h = (pow_pos chips, pow_mono {i = chips} {j = 8} h)
+-- the sample that two bytes are
+abbrev pub sample_of : List ℕ → Sample
+sample_of two = sample (get_or two 0 0) (get_or two 1 0)
 
-pub chips_shifted : (chips : ℕ) → chips ≤ 8 → 1 * 2 ^ chips % 65536 ≡ 2 ^ chips
-chips_shifted chips h = shl_exact {a = 1} 1 chips 16 (omega arith) (omega arith) ∙ one-mul (2 ^ chips)
+-- one sample more
+pub cut_off : (two more : List ℕ) → length two ≡ 2 → samples_in (two ++ more) ≡ sample_of two ∷ samples_in more
+unfolding samples_in
+cut_off [] more e = absurd (omega arith)
+cut_off (x ∷ []) more e = absurd (omega arith)
+cut_off (x ∷ y ∷ []) more e = refl
+cut_off (x ∷ y ∷ z ∷ two) more e = absurd (omega arith)
 
--- the lines of a good sample leave room for a select
-pub lines_small : (chips : ℕ) (bytes : List ℕ) (j : ℕ) → all_good chips (samples_in bytes) ≡ true → j < length bytes / 2 → get_or bytes (2 * j + 1) 0 ≤ 15
-lines_small chips bytes j e h =
-    let d = sample_at bytes j in
-    rw (sample_here bytes j d (omega arith)) at (good_at chips (samples_in bytes) j d e (omega (arith, sample_count bytes)))
+pub none_left : (left : List ℕ) → length left < 2 → samples_in left ≡ []
+unfolding samples_in
+none_left [] h = refl
+none_left (x ∷ []) h = refl
+none_left (x ∷ y ∷ left) h = absurd (omega arith)
 
 -- a test of each sample
-module _ (chips : ℕ) (bytes : List ℕ) {whole : Bool} (j : ℕ) (good : Bool) where
-  pub good_more : (here : Bool) → j < length bytes / 2 → here ≡ sample_good chips (sample_at bytes j)
-      → (good && all_good chips (drop j (samples_in bytes))) ≡ whole → ((good && here) && all_good chips (drop (j + 1) (samples_in bytes))) ≡ whole
+module _ (chips : ℕ) (left : List ℕ) {whole : Bool} (good : Bool) (inv : (good && all_good chips (samples_in left)) ≡ whole) where
+  pub good_more : (two more : List ℕ) → left ≡ two ++ more → length two ≡ 2 → (here : Bool) → here ≡ sample_good chips (sample_of two)
+      → ((good && here) && all_good chips (samples_in more)) ≡ whole
   unfolding all_good
-  good_more here h e inv =
-      one_more (all_good chips) (samples_in bytes) (sample_at bytes j) j good here (omega (arith, sample_count bytes))
-      (ap (λ (t : Bool). t && all_good chips (drop (j + 1) (samples_in bytes)))
-      (ap (sample_good chips) (sample_here bytes j (sample_at bytes j) (omega arith)) ∙ sym e)) inv
+  good_more two more cut even here e =
+      and_assoc good here (all_good chips (samples_in more)) ∙ (rw (cut, cut_off two more even, ← e) at inv)
 
-  pub samples_passed : length bytes / 2 ≤ j → (good && all_good chips (drop j (samples_in bytes))) ≡ whole → good ≡ whole
+  pub samples_passed : length left < 2 → good ≡ whole
   unfolding all_good
-  samples_passed h inv = all_passed (all_good chips) (samples_in bytes) j good refl (omega (arith, sample_count bytes)) inv
+  samples_passed h = sym (and-true good) ∙ (rw (none_left left h) at inv)
 
 -- the number of bytes before the samples
 module _ (chips : ℕ) (bytes : List ℕ) where

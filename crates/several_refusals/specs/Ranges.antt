@@ -1,4 +1,5 @@
 -- Document 02, Ask 10, in steps: a range of the code, as the numbers are defined on it.
+use Rattle.several_chips.specs.declared.Member.{Member}
 use Rattle.several_chips.specs.Numbers as numbers
 use Rattle.several_refusals.specs.declared.memory.Range as code
 
@@ -6,6 +7,9 @@ use Rattle.several_refusals.specs.declared.memory.Range as code
 abbrev pub range_of : code.Range → numbers.Range
 range_of r = record { start = r.start; size = r.size }
 
--- what stands where there is no range
-abbrev pub no_range : numbers.Range
-no_range = record { start = 0; size = 0 }
+-- the two ranges of a chip
+abbrev pub active_of : Member → numbers.Range
+active_of w = record { start = w.active_start; size = w.active_length }
+
+abbrev pub buffer_of : Member → numbers.Range
+buffer_of w = record { start = w.buffer_start; size = w.buffer_length }

@@ -1,11 +1,10 @@
 // Whether the session and the mark of each chip are ones that it can have.
-ghost use Rattle.std.specs.Prelude.{◌≡◌, ◌&&◌, ◌||◌, eqb, leb};
+ghost use Rattle.std.specs.Prelude.{◌≡◌, ◌&&◌, ◌||◌, true, eqb, leb, [], ◌∷◌};
 ghost use Rattle.several_chips.specs.State.{mid_read};
 ghost use Rattle.several_chips.specs.Members.{sound_member};
 ghost use Rattle.several_chips.specs.Numbers.{all_sound};
-ghost use Rattle.several_refusals.specs.Group.{chips_of, Listed};
+ghost use Rattle.several_chips.specs.Promises.{AllBytes};
 
-use crate::group::Group;
 use base_chip::Chip;
 use bus_session::Port;
 use bus_session_bytes::{are_session, session_of};
@@ -19,9 +18,11 @@ fn mark_good(contended: u8, port: Port) -> bool
     (contended <= 1) & ((contended == 0) | mid_read(port))
 }
 
-// Whether the bytes of a chip are a sound session of a newer chip, with a mark that it can have.
+// Whether the bytes of a chip are a sound session of a newer chip, with a mark that it can have. A chip by value holds bytes, and a chip of
+// a lent list does not say so: that is what the second clause adds.
 fn sound_member(member: Member) -> bool
-    ensures { result ≡ sound_member member }
+    ensures sound { result ≡ sound_member member }
+    ensures bytes { AllBytes (member ∷ []) }
 {
     let bytes = member.session;
     if are_session(&bytes) {
@@ -32,17 +33,14 @@ fn sound_member(member: Member) -> bool
     false
 }
 
-// Whether all chips of a group are sound.
-pub(crate) fn all_sound(group: Group) -> bool
-    requires { Listed group }
-    ensures { result ≡ all_sound (chips_of group) }
+// Whether all chips are sound.
+pub(crate) fn all_sound(members: &[Member]) -> bool
+    ensures sound { result ≡ all_sound members.now }
+    ensures bytes { AllBytes members.now }
 {
     let mut good = true;
-    let mut i: usize = 0;
-    while i < group.count {
-        let member = group.members[i];
-        good = good & sound_member(member);
-        i += 1;
+    for member in members {
+        good = good & sound_member(*member);
     }
     good
 }

@@ -1,10 +1,9 @@
-// The ranges of the bank memory that the chips of a group have.
-ghost use Rattle.std.specs.Prelude.{◌≡◌, ◌+◌, ◌*◌, ◌<◌, leb, drop, get_or};
+// The ranges of the bank memory that the chips have.
+ghost use Rattle.std.specs.Prelude.{◌≡◌, ◌+◌, leb};
 ghost use Rattle.several_chips.specs.Numbers.{apart, apart_from, ranges_fit, ranges_good, ranges_of};
-ghost use Rattle.several_refusals.specs.Group.{chips_of, Listed};
-ghost use Rattle.several_refusals.specs.Ranges.{no_range, range_of};
+ghost use Rattle.several_refusals.specs.Ranges.{range_of, active_of, buffer_of};
 
-use crate::group::Group;
+use several_chips::Member;
 
 // Where a range starts, and how long it is.
 #[derive(Clone, Copy)]
@@ -13,19 +12,20 @@ struct Range {
     size: usize,
 }
 
-// A range of a group by its place: the active and the buffer one of each chip.
-fn range_at(group: Group, k: usize) -> Range
-    requires { (Listed group) × (k < 2 * group.count) }
-    ensures { range_of result ≡ get_or (ranges_of (chips_of group)) k no_range }
+// The active range of a chip.
+fn active_of(member: &Member) -> Range
+    ensures { range_of result ≡ active_of member.now }
 {
-    let i = k / 2;
-    let member = group.members[i];
-    if k % 2 == 0 {
-        return Range {
-            start: member.active_start,
-            size: member.active_length,
-        };
+    Range {
+        start: member.active_start,
+        size: member.active_length,
     }
+}
+
+// The buffer range of a chip.
+fn buffer_of(member: &Member) -> Range
+    ensures { range_of result ≡ buffer_of member.now }
+{
     Range {
         start: member.buffer_start,
         size: member.buffer_length,
@@ -50,46 +50,39 @@ fn apart(range: Range, other: Range) -> bool
     none | (ends_by(range, other.start) | ends_by(other, range.start))
 }
 
-// Whether a range lies apart from those of a group from a place on.
-fn apart_from(group: Group, range: Range, first: usize) -> bool
-    requires { Listed group }
-    ensures { result ≡ apart_from (range_of range) (drop first (ranges_of (chips_of group))) }
+// Whether a range lies apart from those of some chips.
+fn apart_from(range: Range, members: &[Member]) -> bool
+    ensures { result ≡ apart_from (range_of range) (ranges_of members.now) }
 {
     let mut good = true;
-    let mut k = first;
-    while k < 2 * group.count {
-        good = good & apart(range, range_at(group, k));
-        k += 1;
+    for member in members {
+        let active = apart(range, active_of(member));
+        let buffer = apart(range, buffer_of(member));
+        good = good & (active & buffer);
     }
     good
 }
 
-// Whether all ranges of a group lie in a memory of some size, and apart from each other.
-pub(crate) fn ranges_good(group: Group, size: usize) -> bool
-    requires { Listed group }
-    ensures { result ≡ ranges_good size (ranges_of (chips_of group)) }
+// Whether all ranges lie in a memory of some size, and apart from each other.
+pub(crate) fn ranges_good(members: &[Member], size: usize) -> bool
+    ensures { result ≡ ranges_good size (ranges_of members.now) }
 {
     let mut good = true;
-    let mut k: usize = 0;
-    while k < 2 * group.count {
-        let range = range_at(group, k);
-        good = good & (ends_by(range, size) & apart_from(group, range, k + 1));
-        k += 1;
+    for (i, member) in members.iter().enumerate() {
+        let active = active_of(member);
+        let buffer = buffer_of(member);
+        let later = &members[i + 1..];
+        let inside = ends_by(active, size) & ends_by(buffer, size);
+        let own = apart(active, buffer);
+        let others = apart_from(active, later) & apart_from(buffer, later);
+        good = good & (inside & (own & others));
     }
     good
 }
 
-// Whether each range of a group has a length.
-pub(crate) fn ranges_fit(group: Group, length: usize) -> bool
-    requires { Listed group }
-    ensures { result ≡ ranges_fit length (chips_of group) }
+// Whether each range has a length.
+pub(crate) fn ranges_fit(members: &[Member], length: usize) -> bool
+    ensures { result ≡ ranges_fit length members.now }
 {
-    let mut good = true;
-    let mut i: usize = 0;
-    while i < group.count {
-        let member = group.members[i];
-        good = good & ((member.active_length == length) & (member.buffer_length == length));
-        i += 1;
-    }
-    good
+    members.iter().all(|member| (member.active_length == length) & (member.buffer_length == length))
 }

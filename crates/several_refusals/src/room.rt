@@ -5,10 +5,8 @@ ghost use Rattle.bus_session_bytes.specs.Layout.{session_of};
 ghost use Rattle.read_run.specs.Reading.{record_count};
 ghost use Rattle.several_chips.specs.Samples.{all_seen_by, samples_in};
 ghost use Rattle.several_chips.specs.Numbers.{count_from, several_record_size};
-ghost use Rattle.several_refusals.specs.Group.{chips_of};
 ghost use Rattle.several_refusals.specs.Counting.{CountingOne, CountingAll};
 
-use crate::group::Group;
 use base_chip::Chip;
 use bus_session::Port;
 use bus_session_bytes::session_of;
@@ -31,38 +29,33 @@ fn count_records(port: Port, chip: u8, samples: &[u8]) -> usize
 {
     let mut now = port;
     let mut count: usize = 0;
-    let mut j: usize = 0;
-    while j < samples.len() / 2 {
-        let x = sees(samples[2 * j], samples[2 * j + 1], chip);
+    for sample in samples.chunks_exact(2) {
+        let x = sees(sample[0], sample[1], chip);
         count += records_in(now.event(Chip::Newer, x));
         now = now.step(Chip::Newer, x);
-        j += 1;
     }
     count
 }
 
-// How many records the samples give of all chips of a group.
-fn count_all(group: Group, samples: &[u8]) -> usize
-    requires { CountingAll group samples.now }
-    ensures { result ≡ count_from 0 (chips_of group) (samples_in samples.now) }
+// How many records the samples give of all chips.
+fn count_all(members: &[Member], samples: &[u8]) -> usize
+    requires { CountingAll members.now samples.now }
+    ensures { result ≡ count_from 0 members.now (samples_in samples.now) }
 {
     let mut count: usize = 0;
-    let mut i: usize = 0;
-    while i < group.count {
-        let member = group.members[i];
-        count += count_records(port_of(member), i as u8, samples);
-        i += 1;
+    for (i, member) in members.iter().enumerate() {
+        count += count_records(port_of(*member), i as u8, samples);
     }
     count
 }
 
 // Whether the records have room. They are counted only where it may not suffice: each takes three samples, but for a chip's first.
-pub(crate) fn room_suffices(group: Group, samples: &[u8], room: usize) -> bool
-    requires { CountingAll group samples.now }
-    ensures { result ≡ leb (several_record_size * count_from 0 (chips_of group) (samples_in samples.now)) room }
+pub(crate) fn room_suffices(members: &[Member], samples: &[u8], room: usize) -> bool
+    requires { CountingAll members.now samples.now }
+    ensures { result ≡ leb (several_record_size * count_from 0 members.now (samples_in samples.now)) room }
 {
-    if RECORD * (group.count * ((samples.len() / 2 + 2) / 3)) <= room {
+    if RECORD * (members.len() * ((samples.len() / 2 + 2) / 3)) <= room {
         return true;
     }
-    RECORD * count_all(group, samples) <= room
+    RECORD * count_all(members, samples) <= room
 }

@@ -32,10 +32,8 @@ fn all_good(chips: usize, samples: &[u8]) -> bool
 {
     let least = least_selects(chips);
     let mut good = true;
-    let mut j: usize = 0;
-    while j < samples.len() / 2 {
-        good = good & ((least <= samples[2 * j]) & lines_good(samples[2 * j + 1]));
-        j += 1;
+    for sample in samples.chunks_exact(2) {
+        good = good & ((least <= sample[0]) & lines_good(sample[1]));
     }
     good
 }

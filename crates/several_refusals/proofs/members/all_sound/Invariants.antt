@@ -1,13 +1,12 @@
-use Prim.Native.Nat.{◌-◌}
 use mathlib.Core.Path.{◌≡◌}
 use mathlib.Core.Bool.{◌&&◌}
-use lib.ListN.{drop}
+use lib.ListN.{take, drop}
 use Rattle.several_chips.specs.Numbers.{all_sound}
-use Rattle.several_refusals.specs.Group.{chips_of}
+use Rattle.several_chips.specs.Promises.{AllBytes}
 use Rattle.several_refusals.proofs.members.all_sound.Given as goal
 
-abbrev pub invariant-loop-i : goal.invariant-loop-i
-invariant-loop-i l = (l.good && all_sound (drop l.i (chips_of l.group))) ≡ all_sound (chips_of l.group)
-
-abbrev pub decreases-loop-i : goal.decreases-loop-i
-decreases-loop-i l = l.group.count - l.i
+abbrev pub invariant-loop-member : goal.invariant-loop-member
+invariant-loop-member l = record {
+  rest : (l.good && all_sound (drop l.member-index l.members)) ≡ all_sound l.members;
+  bytes : AllBytes (take l.member-index l.members);
+}

@@ -3,9 +3,9 @@ use mathlib.Core.Path.{sym, ◌∙◌}
 use Rattle.several_chips.specs.Members.{sound_member}
 use Rattle.several_refusals.proofs.members.sound_member.Goals as goal
 
-pub returns-then-are_session : goal.returns-then-are_session
+pub returns-then-are_session-clause-sound : goal.returns-then-are_session-clause-sound
 unfolding sound_member
-returns-then-are_session c =
+returns-then-are_session-clause-sound c =
     rw (
       sym c.are_session.ensures
           ∙ c.if-are_session.true,
@@ -14,6 +14,6 @@ returns-then-are_session c =
       c.session_of-session.ensures,
     )
 
-pub returns : goal.returns
+pub returns-clause-sound : goal.returns-clause-sound
 unfolding sound_member
-returns c = rw (sym c.are_session.ensures ∙ c.if-are_session.false)
+returns-clause-sound c = rw (sym c.are_session.ensures ∙ c.if-are_session.false)

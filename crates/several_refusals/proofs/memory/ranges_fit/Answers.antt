@@ -1,37 +1,25 @@
--- `ranges_fit` meets its contract: the chips passed, with the test of those that are left, are the whole test.
-use mathlib.Core.Path.{refl}
-use mathlib.Core.Bool.{◌&&◌}
-use native.Mathlib.Omega.{arith}
+-- `ranges_fit` meets its contract: the test of each chip is that of the definition.
+use mathlib.Core.Path.{refl, ◌∙◌}
+use mathlib.Core.Bool.{Bool, ◌&&◌}
 use lib.Dec.{eqb}
+use borrow.Author.Tests.{tests}
+use Rattle.std.proofs.Common.{rules}
+use Rattle.std.specs.List.{list_all}
+use Rattle.std.proofs.lemmas.Iterator.{YieldsList-from_slice}
+use Rattle.std.proofs.lemmas.Iterator.Search.{all_from_yields_List}
+use Rattle.std.proofs.lemmas.List.Recursion.{same_from_clauses}
+use Rattle.several_chips.specs.declared.Member.{Member}
 use Rattle.several_chips.specs.Numbers.{ranges_fit}
-use Rattle.several_refusals.proofs.Chips.{chip_more, chips_passed}
+use Prim.Native.Nat.{ℕ}
 use Rattle.several_refusals.proofs.memory.ranges_fit.Goals as goal
 
-pub loop-i-init : goal.loop-i-init
-loop-i-init c = refl
-
-pub offset_bounds-group-i : goal.offset_bounds-group-i
-offset_bounds-group-i c = omega arith
-
-pub bounds-group-i : goal.bounds-group-i
-bounds-group-i c = omega arith
-
-pub overflow_add-i : goal.overflow_add-i
-overflow_add-i c = omega arith
-
-pub loop-i-smaller : goal.loop-i-smaller
-loop-i-smaller c = omega arith
-
-pub loop-i-preserved : goal.loop-i-preserved
-unfolding ranges_fit
-loop-i-preserved c =
-    let at = c.loop-i in
-    chip_more (ranges_fit c.args.length) c.args.group c.requires at.i at.good
-    (λ w. eqb w.active_length c.args.length && eqb w.buffer_length c.args.length) _
-    (λ w ws. refl) c.loop-i-test.true refl at.invariant
+abbrev fits : ℕ → Member → Bool
+fits n w = eqb w.active_length n && eqb w.buffer_length n
 
 pub returns : goal.returns
 unfolding ranges_fit
 returns c =
-    let at = c.loop-i in
-    chips_passed (ranges_fit c.args.length) c.args.group c.requires at.i at.good refl c.loop-i-test.false at.invariant
+    let ws = c.args.members.now in
+    let n = c.args.length in
+    all_from_yields_List (fits n) _ _ _ c.all.ensures.ran (YieldsList-from_slice ws cc) (λ x b q k. search (rules, tests))
+    ∙ same_from_clauses (list_all (fits n)) (ranges_fit n) (λ w b. fits n w && b) refl (λ w us. refl) (λ w us. refl) ws

@@ -1,10 +1,10 @@
-use Prim.Native.Nat.{◌-◌, ◌/◌}
-use lib.ListN.{length}
+use mathlib.Core.Path.{◌≡◌}
+use Rattle.std.specs.Slice.Iter.{chunks_exact_rest, chunks_exact_size}
 use Rattle.several_refusals.proofs.Counting.{Counted}
 use Rattle.several_refusals.proofs.room.count_records.Given as goal
 
-abbrev pub invariant-loop-j : goal.invariant-loop-j
-invariant-loop-j l = Counted l.chip l.samples l.initial.now l.now l.count l.j
-
-abbrev pub decreases-loop-j : goal.decreases-loop-j
-decreases-loop-j l = length l.samples / 2 - l.j
+abbrev pub invariant-loop-sample : goal.invariant-loop-sample
+invariant-loop-sample l = record {
+  two : chunks_exact_size l.sample-iterator ≡ 2;
+  counted : Counted l.chip l.samples (chunks_exact_rest l.sample-iterator) l.initial.now l.now l.count;
+}

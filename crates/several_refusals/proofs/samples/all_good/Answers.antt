@@ -1,42 +1,21 @@
 -- `all_good` meets its contract: the samples passed, with the test of those that are left, are the whole test.
-use mathlib.Core.Path.{refl}
+use mathlib.Core.Path.{◌∙◌}
 use native.Mathlib.Omega.{arith}
 use Rattle.several_refusals.proofs.SampleBytes.{good_more, samples_passed}
 use Rattle.several_refusals.proofs.samples.all_good.Goals as goal
 
-pub loop-j-init : goal.loop-j-init
-loop-j-init c = refl
-
-pub overflow_mul-good : goal.overflow_mul-good
-overflow_mul-good c = omega arith
-
-pub bounds-samples-j : goal.bounds-samples-j
-bounds-samples-j c = omega arith
-
-pub overflow_mul-j : goal.overflow_mul-j
-overflow_mul-j c = omega arith
-
-pub overflow_add-j : goal.overflow_add-j
-overflow_add-j c = omega arith
-
-pub bounds-samples-j-in-loop-j : goal.bounds-samples-j-in-loop-j
-bounds-samples-j-in-loop-j c = omega arith
-
-pub overflow_add-j-in-loop-j : goal.overflow_add-j-in-loop-j
-overflow_add-j-in-loop-j c = omega arith
-
-pub loop-j-smaller : goal.loop-j-smaller
-loop-j-smaller c = omega arith
-
-pub loop-j-preserved : goal.loop-j-preserved
-loop-j-preserved c =
-    let at = c.loop-j in
-    let least = c.least_selects-least.ensures in
-    good_more c.args.chips c.args.samples.now at.j at.good _ c.loop-j-test.true (rw (least, c.lines_good.ensures))
-    at.invariant
+pub loop-sample-preserved : goal.loop-sample-preserved
+loop-sample-preserved c =
+    let at = c.loop-sample.invariant in
+    let step = c.in-Some.ensures.steps in
+    record {
+      two = step.0 ∙ at.two;
+      rest =
+          good_more c.args.chips _ c.loop-sample.good at.rest c.in-Some.sample.now _ step.1.0 (step.1.1 ∙ at.two) _
+          (rw (c.least_selects-least.ensures, c.lines_good.ensures));
+    }
 
 pub returns : goal.returns
 returns c =
-    let a = c.args in
-    let at = c.loop-j in
-    samples_passed a.chips a.samples.now at.j at.good c.loop-j-test.false at.invariant
+    let at = c.loop-sample.invariant in
+    samples_passed c.args.chips _ c.loop-sample.good at.rest (omega (arith, at.two, c.in-None.ensures.steps.1.0))
