@@ -17,23 +17,22 @@ fn past_each(samples: &[u8], level: u8, from: usize) -> Past
     requires { (Level level) × (from ≤ length samples.now) }
     ensures { Rested samples.now level from result }
 {
-    let mut sclk = level;
-    let mut at = from;
-    while at < samples.len() {
+    let mut level = level;
+    for at in from..samples.len() {
         let x = samples[at];
-        if x % 2 == 0 {
-            break;
+        let falls = x % 2 == 0;
+        if falls {
+            return Past { at, level };
         }
-        sclk = x & 2;
-        at += 1;
+        level = x & 2;
     }
     Past {
-        at: at,
-        level: sclk,
+        at: samples.len(),
+        level,
     }
 }
 
-// Past samples with CSB high, eight at a time.
+// Past samples with CSB high, eight at a time. The place is counted, since the answer and the rest go by it: `chunks_exact` has none.
 pub(crate) fn past_high(samples: &[u8], level: u8, from: usize) -> Past
     requires { (Level level) × (from ≤ length samples.now) }
     ensures { Rested samples.now level from result }

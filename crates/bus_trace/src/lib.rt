@@ -27,23 +27,10 @@ pub struct NextEvent {
 fn happened(event: Event) -> bool
     ensures { result ≡ happens event }
 {
-    match event {
-        Event::Nothing => false,
-        Event::Whole {
-            read: _,
-            address: _,
-            byte: _,
-        } => true,
-        Event::Aborted {
-            address: _,
-            bits: _,
-            data: _,
-        } => true,
-        Event::Ended => true,
-    }
+    !matches!(event, Event::Nothing)
 }
 
-// The samples from a place on up to the next event, or to their end.
+// The samples from a place on up to the next event, or to their end. The place goes on by what `quiet` passes, not by one.
 pub fn next_event(chip: Chip, port: Port, samples: &[u8], from: usize) -> NextEvent
     requires { (sound_port chip port ≡ true) × (from < length samples.now) }
     ensures { NextAfter chip samples.now port from result.event result.port result.at }
@@ -65,16 +52,8 @@ pub fn next_event(chip: Chip, port: Port, samples: &[u8], from: usize) -> NextEv
         s = s.step(chip, x);
         at += 1;
         if happened(event) {
-            return NextEvent {
-                event: event,
-                port: s,
-                at: at,
-            };
+            return NextEvent { event, port: s, at };
         }
     }
-    NextEvent {
-        event: event,
-        port: s,
-        at: at,
-    }
+    NextEvent { event, port: s, at }
 }

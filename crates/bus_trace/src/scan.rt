@@ -50,9 +50,9 @@ fn bits_at(samples: &[u8], from: Progress, rises: u64, line: u8, lsb_first: bool
     while rising != 0 {
         if bits == last {
             return Bits {
-                bits: bits,
-                value: value,
-                rising: rising,
+                bits,
+                value,
+                rising,
             };
         }
         let x = samples[at + lane(rising)];
@@ -61,9 +61,9 @@ fn bits_at(samples: &[u8], from: Progress, rises: u64, line: u8, lsb_first: bool
         rising = rising & (rising - 1);
     }
     Bits {
-        bits: bits,
-        value: value,
-        rising: rising,
+        bits,
+        value,
+        rising,
     }
 }
 
@@ -79,7 +79,7 @@ fn with_four(card: &Card, lsb_first: bool, value: u16, bits: u8, more: u8) -> u1
     value * 16 + more as u16
 }
 
-// The same with the first three of them.
+// The same with the first three of them. No const parameter makes the two one: their clauses are two definitions.
 fn with_three(card: &Card, lsb_first: bool, value: u16, bits: u8, more: u8) -> u16
     requires { (value < 2 ^ bits) × (bits + 4 ≤ 16) × (more < 16) }
     ensures { (a b c d : Bool) → more ≡ nibble a b c d → result ≡ shifted_three lsb_first value bits a b c }
@@ -104,31 +104,37 @@ pub(crate) fn take_each(
     let mut level = from.level;
     let mut bits = from.bits;
     let mut value = from.value;
-    let mut at = from.at;
-    while at < samples.len() {
+    for at in from.at..samples.len() {
         let x = samples[at];
         let now = x % 4;
         if now % 2 == 1 {
-            break;
+            return Progress {
+                level,
+                bits,
+                value,
+                at,
+            };
         }
-        if now <= level {
-            level = now;
-            at += 1;
-            continue;
+        let rises = level < now;
+        if rises {
+            if bits == last {
+                return Progress {
+                    level,
+                    bits,
+                    value,
+                    at,
+                };
+            }
+            value = shift_in(lsb_first, value, bits, bit_at(x, line));
+            bits += 1;
         }
-        if bits == last {
-            break;
-        }
-        value = shift_in(lsb_first, value, bits, bit_at(x, line));
-        bits += 1;
         level = now;
-        at += 1;
     }
     Progress {
-        level: level,
-        bits: bits,
-        value: value,
-        at: at,
+        level,
+        bits,
+        value,
+        at: samples.len(),
     }
 }
 
@@ -174,7 +180,7 @@ fn take_before_high(
     }
 }
 
-// Samples with CSB low, until the piece ends: eight at a time, and of these rise by rise.
+// Samples with CSB low, until the piece ends: eight at a time, and of these rise by rise. The place is counted, since the progress has it.
 fn take_words(samples: &[u8], from: Progress, line: u8, lsb_first: bool, last: u8) -> Progress
     requires { (ProgressBounds samples.now last from) × (line < 4) }
     ensures { LowScanAfter samples.now line lsb_first last from result }
@@ -265,9 +271,8 @@ pub fn next_stop(
         let past = past_high(samples, from.level, from.at);
         return Progress {
             level: past.level,
-            bits: from.bits,
-            value: from.value,
             at: past.at,
+            ..from
         };
     }
     take(card, samples, from, line, lsb_first, last)

@@ -1,4 +1,6 @@
 -- `past_each` meets its contract: each sample passed has CSB high, and leaves its level.
+use mathlib.Core.Path.{◌≡◌}
+use lib.ListN.{length}
 use native.Mathlib.Omega.{arith}
 use Rattle.bus_trace.proofs.Resting.{resting_begun, resting_one, rested_all, rested_low}
 use Rattle.bus_trace.proofs.high.past_each.Goals as goal
@@ -6,14 +8,14 @@ use Rattle.bus_trace.proofs.high.past_each.Goals as goal
 pub loop-at-init : goal.loop-at-init
 loop-at-init c = resting_begun _ _ c.requires.1
 
-pub loop-at-smaller : goal.loop-at-smaller
-loop-at-smaller c = omega arith
-
 pub loop-at-preserved : goal.loop-at-preserved
-loop-at-preserved c = let l = c.if-x-eq0.false in resting_one c.loop-at.invariant c.loop-at-test.true (omega (arith, l))
+loop-at-preserved c = let l = c.if-falls.false in resting_one c.loop-at.invariant c.loop-at-test.true (omega (arith, l))
 
-pub returns-after-loop-at : goal.returns-after-loop-at
-returns-after-loop-at c = rested_all c.loop-at.invariant c.loop-at-test.false
+pub returns : goal.returns
+returns c =
+    let inv = c.loop-at.invariant in
+    let e : c.loop-at.at ≡ length c.args.samples.now = omega (arith, inv.high.within, c.loop-at-test.false) in
+    rw e at (rested_all inv c.loop-at-test.false)
 
-pub returns-then-x-eq0 : goal.returns-then-x-eq0
-returns-then-x-eq0 c = rested_low c.loop-at.invariant c.if-x-eq0.true
+pub returns-then-falls : goal.returns-then-falls
+returns-then-falls c = rested_low c.loop-at.invariant c.if-falls.true

@@ -1,5 +1,3 @@
-use Prim.Native.Nat.{◌-◌}
-use lib.ListN.{length}
 use Rattle.bus_trace.specs.Scan.{progress}
 use Rattle.bus_trace.proofs.Onward.{Going}
 use Rattle.bus_trace.proofs.scan.take_each.Given as goal
@@ -7,6 +5,3 @@ use Rattle.bus_trace.proofs.scan.take_each.Given as goal
 abbrev pub invariant-loop-at : goal.invariant-loop-at
 invariant-loop-at l =
     Going l.samples l.line l.lsb_first l.last (progress l.initial.level l.initial.bits l.initial.value l.initial.at) (progress l.level l.bits l.value l.at)
-
-abbrev pub decreases-loop-at : goal.decreases-loop-at
-decreases-loop-at l = length l.samples - l.at
