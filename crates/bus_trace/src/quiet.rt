@@ -4,7 +4,7 @@ ghost use Rattle.bus_session.specs.State.{sound_port};
 ghost use Rattle.bus_trace.specs.Progress.{last_of, source_line, Reached};
 
 use crate::high::past_high;
-use crate::scan::{Progress, take_each};
+use crate::scan::{Piece, Progress, take_each};
 use base_chip::Chip;
 use bus_session::{Phase, Port, SDIO, SDO};
 
@@ -23,9 +23,7 @@ pub fn last_of(phase: Phase) -> u8
 pub fn line_of(chip: Chip, port: Port) -> u8
     ensures { result ≡ source_line chip port }
 {
-    let phase = port.phase;
-    let in_use = port.in_use;
-    if (last_of(phase) == 7) & port.read & in_use.counting(chip).sdo_active {
+    if (last_of(port.phase) == 7) & port.read & port.in_use.counting(chip).sdo_active {
         SDO
     } else {
         SDIO
@@ -64,9 +62,12 @@ fn low(chip: Chip, port: Port, samples: &[u8], from: usize) -> Progress
         value: port.value,
         at: from,
     };
-    let phase = port.phase;
-    let line = line_of(chip, port);
-    take_each(samples, start, line, port.in_use.lsb_first, last_of(phase))
+    let piece = Piece {
+        line: line_of(chip, port),
+        lsb_first: port.in_use.lsb_first,
+        last: last_of(port.phase),
+    };
+    take_each(samples, piece, start)
 }
 
 // Samples that give no event, from a place on.

@@ -23,6 +23,15 @@ pub struct Progress {
     pub at: usize,
 }
 
+// What a scan of one piece goes by: the line of its bits, whether the lowest comes first, and how many come before the last.
+#[derive(Clone, Copy)]
+pub(crate) struct Piece {
+    pub(crate) line: u8,
+    pub(crate) lsb_first: bool,
+    pub(crate) last: u8,
+    ghost wired: { line < 4 },
+}
+
 // The bits taken of eight samples, their value, and the rises that are left.
 #[derive(Clone, Copy)]
 struct Bits {
@@ -39,16 +48,16 @@ fn lane(rising: u64) -> usize
 }
 
 // A bit of the line at each of the rises, up to so many.
-fn bits_at(samples: &[u8], from: Progress, rises: u64, line: u8, lsb_first: bool, last: u8) -> Bits
-    requires { (ProgressBounds samples.now last from) × (RisesAhead samples.now from rises) × (line < 4) }
-    ensures { BitsAfter samples.now line lsb_first last from result }
+fn bits_at(samples: &[u8], piece: Piece, from: Progress, rises: u64) -> Bits
+    requires { (ProgressBounds samples.now piece.last from) × (RisesAhead samples.now from rises) }
+    ensures { BitsAfter samples.now piece.line piece.lsb_first piece.last from result }
 {
     let at = from.at;
     let mut bits = from.bits;
     let mut value = from.value;
     let mut rising = rises;
     while rising != 0 {
-        if bits == last {
+        if bits == piece.last {
             return Bits {
                 bits,
                 value,
@@ -56,7 +65,7 @@ fn bits_at(samples: &[u8], from: Progress, rises: u64, line: u8, lsb_first: bool
             };
         }
         let x = samples[at + lane(rising)];
-        value = shift_in(lsb_first, value, bits, bit_at(x, line));
+        value = shift_in(piece.lsb_first, value, bits, bit_at(x, piece.line));
         bits += 1;
         rising = rising & (rising - 1);
     }
@@ -91,15 +100,9 @@ fn with_three(card: &Card, lsb_first: bool, value: u16, bits: u8, more: u8) -> u
 }
 
 // Samples with CSB low, one by one, until the piece ends.
-pub(crate) fn take_each(
-    samples: &[u8],
-    from: Progress,
-    line: u8,
-    lsb_first: bool,
-    last: u8,
-) -> Progress
-    requires { (ProgressBounds samples.now last from) × (line < 4) }
-    ensures { LowScanAfter samples.now line lsb_first last from result }
+pub(crate) fn take_each(samples: &[u8], piece: Piece, from: Progress) -> Progress
+    requires { ProgressBounds samples.now piece.last from }
+    ensures { LowScanAfter samples.now piece.line piece.lsb_first piece.last from result }
 {
     let mut level = from.level;
     let mut bits = from.bits;
@@ -117,7 +120,7 @@ pub(crate) fn take_each(
         }
         let rises = level < now;
         if rises {
-            if bits == last {
+            if bits == piece.last {
                 return Progress {
                     level,
                     bits,
@@ -125,7 +128,7 @@ pub(crate) fn take_each(
                     at,
                 };
             }
-            value = shift_in(lsb_first, value, bits, bit_at(x, line));
+            value = shift_in(piece.lsb_first, value, bits, bit_at(x, piece.line));
             bits += 1;
         }
         level = now;
@@ -139,30 +142,15 @@ pub(crate) fn take_each(
 }
 
 // Samples with CSB low, up to the first of eight that has it high, or until the piece ends before it.
-fn take_before_high(
-    samples: &[u8],
-    word: u64,
-    from: Progress,
-    line: u8,
-    lsb_first: bool,
-    last: u8,
-) -> Progress
-    requires { (ProgressBounds samples.now last from)
-        × (line < 4)
+fn take_before_high(samples: &[u8], word: u64, piece: Piece, from: Progress) -> Progress
+    requires { (ProgressBounds samples.now piece.last from)
         × (from.at + 8 ≤ length samples.now)
         × (word ≡ word_of samples.now from.at 8)
         × (0 < highs_in 8 word) }
-    ensures { LowScanAfter samples.now line lsb_first last from result }
+    ensures { LowScanAfter samples.now piece.line piece.lsb_first piece.last from result }
 {
     let at = from.at;
-    let b = bits_at(
-        samples,
-        from,
-        rises(word, from.level),
-        line,
-        lsb_first,
-        last,
-    );
+    let b = bits_at(samples, piece, from, rises(word, from.level));
     if b.rising != 0 {
         return Progress {
             level: 0,
@@ -181,18 +169,18 @@ fn take_before_high(
 }
 
 // Samples with CSB low, until the piece ends: eight at a time, and of these rise by rise. The place is counted, since the progress has it.
-fn take_words(samples: &[u8], from: Progress, line: u8, lsb_first: bool, last: u8) -> Progress
-    requires { (ProgressBounds samples.now last from) × (line < 4) }
-    ensures { LowScanAfter samples.now line lsb_first last from result }
+fn take_words(samples: &[u8], piece: Piece, from: Progress) -> Progress
+    requires { ProgressBounds samples.now piece.last from }
+    ensures { LowScanAfter samples.now piece.line piece.lsb_first piece.last from result }
 {
     let mut p = from;
     while 8 <= samples.len() - p.at {
         let at = p.at;
         let word = word_at(samples, at);
         if highs(word) != 0 {
-            return take_before_high(samples, word, p, line, lsb_first, last);
+            return take_before_high(samples, word, piece, p);
         }
-        let b = bits_at(samples, p, rises(word, p.level), line, lsb_first, last);
+        let b = bits_at(samples, piece, p, rises(word, p.level));
         if b.rising != 0 {
             return Progress {
                 level: 0,
@@ -206,21 +194,14 @@ fn take_words(samples: &[u8], from: Progress, line: u8, lsb_first: bool, last: u
         p.value = b.value;
         p.at = at + 8;
     }
-    take_each(samples, p, line, lsb_first, last)
+    take_each(samples, piece, p)
 }
 
 // Samples with CSB low, until the piece ends: the bits of a line at the rises of SCLK, up to so many. Where each takes two samples,
 // eight are taken at once, or seven before the last.
-fn take(
-    card: &Card,
-    samples: &[u8],
-    from: Progress,
-    line: u8,
-    lsb_first: bool,
-    last: u8,
-) -> Progress
-    requires { (ProgressBounds samples.now last from) × (line < 4) }
-    ensures { LowScanAfter samples.now line lsb_first last from result }
+fn take(card: &Card, samples: &[u8], piece: Piece, from: Progress) -> Progress
+    requires { ProgressBounds samples.now piece.last from }
+    ensures { LowScanAfter samples.now piece.line piece.lsb_first piece.last from result }
 {
     let mut p = from;
     while 16 <= samples.len() - p.at {
@@ -233,25 +214,31 @@ fn take(
         if levels(second) != DENSE {
             break;
         }
-        if last < p.bits + 7 {
+        if piece.last < p.bits + 7 {
             break;
         }
-        let value = with_four(card, lsb_first, p.value, p.bits, four_bits(first, line));
-        let more = four_bits(second, line);
-        if p.bits + 7 == last {
+        let value = with_four(
+            card,
+            piece.lsb_first,
+            p.value,
+            p.bits,
+            four_bits(first, piece.line),
+        );
+        let more = four_bits(second, piece.line);
+        if p.bits + 7 == piece.last {
             return Progress {
                 level: 0,
-                bits: last,
-                value: with_three(card, lsb_first, value, p.bits + 4, more),
+                bits: piece.last,
+                value: with_three(card, piece.lsb_first, value, p.bits + 4, more),
                 at: at + 15,
             };
         }
         p.level = 2;
-        p.value = with_four(card, lsb_first, value, p.bits + 4, more);
+        p.value = with_four(card, piece.lsb_first, value, p.bits + 4, more);
         p.bits = p.bits + 8;
         p.at = at + 16;
     }
-    take_words(samples, p, line, lsb_first, last)
+    take_words(samples, piece, p)
 }
 
 // Samples up to one that ends the piece, or with CSB high up to one that lets it fall.
@@ -275,5 +262,10 @@ pub fn next_stop(
             ..from
         };
     }
-    take(card, samples, from, line, lsb_first, last)
+    let piece = Piece {
+        line,
+        lsb_first,
+        last,
+    };
+    take(card, samples, piece, from)
 }

@@ -15,9 +15,9 @@ use Rattle.bus_trace.proofs.scan.bits_at.Goals as goal
 pub loop-rising-init : goal.loop-rising-init
 loop-rising-init c = λ l s m. gathered_begun _ s m
 
-pub returns-then-bits-last : goal.returns-then-bits-last
-returns-then-bits-last c =
-    record { gathered = c.loop-rising.invariant c.args.from.level c.requires.0 c.requires.1; full = λ z. c.if-bits-last.true }
+pub returns-then-bits-piece : goal.returns-then-bits-piece
+returns-then-bits-piece c =
+    record { gathered = c.loop-rising.invariant c.args.from.level c.requires.0 c.requires.1; full = λ z. c.if-bits-piece.true }
 
 pub overflow_add-x : goal.overflow_add-x
 overflow_add-x c =
@@ -34,7 +34,7 @@ bounds-samples-at c =
     omega (arith, c.lane.ensures, f.zeros, f.inside, lows_le 8 (word_of c.args.samples.now c.args.from.at 8), c.requires.1.room)
 
 pub bit_at-requires : goal.bit_at-requires
-bit_at-requires c = omega (arith, c.requires.2)
+bit_at-requires c = omega (arith, c.args.piece.wired)
 
 pub shift_in-value-requires : goal.shift_in-value-requires
 shift_in-value-requires c =
@@ -63,11 +63,11 @@ loop-rising-preserved c =
     next_rise (λ k. (c.type_inv.samples k).fits)
     m.room g c.loop-rising-test.true in
     let e = c.lane.ensures ∙ f.zeros in
-    let b = c.bit_at.ensures ∙ ap (λ (k : ℕ). bit_at (get_or c.args.samples.now (c.args.from.at + k) 0) c.args.line) e in
+    let b = c.bit_at.ensures ∙ ap (λ (k : ℕ). bit_at (get_or c.args.samples.now (c.args.from.at + k) 0) c.args.piece.line) e in
     let v =
-    c.shift_in-value.ensures ∙ ap (λ (b : Bool). shifted_in c.args.lsb_first c.loop-rising.value
+    c.shift_in-value.ensures ∙ ap (λ (b : Bool). shifted_in c.args.piece.lsb_first c.loop-rising.value
     c.loop-rising.bits b) b in
-    let few = c.if-bits-last.false in
+    let few = c.if-bits-piece.false in
     rw v (gathered_more (λ k. (c.type_inv.samples k).fits)
     m.room g f (omega (arith, few, g.standing.few)))
 

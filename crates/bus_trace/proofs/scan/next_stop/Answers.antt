@@ -9,7 +9,7 @@ pub returns-then-csb : goal.returns-then-csb
 returns-then-csb c = scan_high c.args.from _ c.if-csb.true c.past_high-past.ensures
 
 pub take-requires : goal.take-requires
-take-requires c = c.requires
+take-requires c = c.requires.0
 
 pub returns : goal.returns
 returns c = scan_low c.if-csb.false c.take.ensures

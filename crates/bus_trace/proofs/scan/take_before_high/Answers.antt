@@ -14,8 +14,7 @@ rises-requires c = c.requires.0.level
 pub bits_at-b-requires : goal.bits_at-b-requires
 bits_at-b-requires c = (
   c.requires.0,
-  record { room = c.requires.2; mask = c.rises.ensures ∙ ap (λ (w : ℕ). rises_in (lows_in 8 w) c.args.from.level w) c.requires.3 },
-  c.requires.1,
+  record { room = c.requires.1; mask = c.rises.ensures ∙ ap (λ (w : ℕ). rises_in (lows_in 8 w) c.args.from.level w) c.requires.2 },
 )
 
 pub overflow_add-result : goal.overflow_add-result
@@ -23,29 +22,29 @@ overflow_add-result c =
     omega (
       arith,
       rise_inside (λ k. (c.type_inv.samples k).fits) (going_begun c.requires.0)
-          c.requires.2 c.bits_at-b.ensures c.if-b-ne0.true _ c.lane.ensures,
-      c.requires.2,
+          c.requires.1 c.bits_at-b.ensures c.if-b-ne0.true _ c.lane.ensures,
+      c.requires.1,
       c.well_formed,
     )
 
 pub returns-then-b-ne0 : goal.returns-then-b-ne0
 returns-then-b-ne0 c =
     took_rise (λ k. (c.type_inv.samples k).fits) (going_begun c.requires.0)
-    c.requires.2 c.bits_at-b.ensures c.if-b-ne0.true _ c.lane.ensures
+    c.requires.1 c.bits_at-b.ensures c.if-b-ne0.true _ c.lane.ensures
 
 pub level_at-requires : goal.level_at-requires
 level_at-requires c =
-    let full : lows_in 8 c.args.word ≡ 8 → ⊥ = λ (z : lows_in 8 c.args.word ≡ 8). absurd (omega (arith, lows_full 8 c.args.word z, c.requires.4)) in
+    let full : lows_in 8 c.args.word ≡ 8 → ⊥ = λ (z : lows_in 8 c.args.word ≡ 8). absurd (omega (arith, lows_full 8 c.args.word z, c.requires.3)) in
     (c.requires.0.level, omega (arith, c.lows-stop.ensures, full, lows_le 8 c.args.word))
 
 pub overflow_add-result-2 : goal.overflow_add-result-2
 overflow_add-result-2 c =
-    omega (arith, c.lows-stop.ensures, lows_le 8 c.args.word, c.requires.2, c.well_formed)
+    omega (arith, c.lows-stop.ensures, lows_le 8 c.args.word, c.requires.1, c.well_formed)
 
 pub returns : goal.returns
 returns c =
-    let w = c.requires.3 in
+    let w = c.requires.2 in
     took_before_high (λ k. (c.type_inv.samples k).fits)
-    (going_begun c.requires.0) c.requires.2 c.bits_at-b.ensures
-    c.if-b-ne0.false (λ z. omega (arith, c.requires.4, ap (highs_in 8) w, z)) _ _ (c.lows-stop.ensures ∙ ap (lows_in 8) w)
+    (going_begun c.requires.0) c.requires.1 c.bits_at-b.ensures
+    c.if-b-ne0.false (λ z. omega (arith, c.requires.3, ap (highs_in 8) w, z)) _ _ (c.lows-stop.ensures ∙ ap (lows_in 8) w)
     (c.level_at.ensures ∙ ap (level_in c.lows-stop.result c.args.from.level) w)

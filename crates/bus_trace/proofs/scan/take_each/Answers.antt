@@ -5,13 +5,13 @@ use native.Mathlib.Omega.{arith}
 use Rattle.bus_trace.proofs.Advance.{even_level}
 use Rattle.bus_trace.proofs.Onward.{going_begun, going_idle, going_bit, took_all, took_high, took_last}
 use Rattle.bus_trace.proofs.scan.take_each.Goals as goal
-use Rattle.bus_trace.proofs.scan.take_each.Goals.{then-rises+else-bits-last, else-rises}
+use Rattle.bus_trace.proofs.scan.take_each.Goals.{then-rises+else-bits-piece, else-rises}
 
 pub loop-at-init : goal.loop-at-init
-loop-at-init c = going_begun c.requires.0
+loop-at-init c = going_begun c.requires
 
 pub bit_at-requires : goal.bit_at-requires
-bit_at-requires c = omega (arith, c.requires.1)
+bit_at-requires c = omega (arith, c.args.piece.wired)
 
 pub shift_in-value-requires : goal.shift_in-value-requires
 shift_in-value-requires c = let s = c.loop-at.invariant.standing in (omega (arith, s.few, s.short), s.small)
@@ -22,8 +22,8 @@ overflow_add-bits c = let s = c.loop-at.invariant.standing in omega (arith, s.fe
 pub returns-then-now-eq1 : goal.returns-then-now-eq1
 returns-then-now-eq1 c = let e = c.if-now-eq1.true in took_high c.loop-at.invariant (omega (arith, e))
 
-pub returns-then-bits-last : goal.returns-then-bits-last
-returns-then-bits-last c = took_last c.loop-at.invariant c.if-bits-last.true c.if-rises.true
+pub returns-then-bits-piece : goal.returns-then-bits-piece
+returns-then-bits-piece c = took_last c.loop-at.invariant c.if-bits-piece.true c.if-rises.true
 
 pub returns : goal.returns
 returns c =
@@ -36,8 +36,8 @@ loop-at-preserved c =
     let inv = c.loop-at.invariant in
     let even = even_level _ c.if-now-eq1.false in
     elim c.if-rises.branch [
-      | then-rises+else-bits-last w ↦
+      | then-rises+else-bits-piece w ↦
           rw (w.bits-is, w.value-is, w.shift_in-value.ensures, w.bit_at.ensures)
-          (going_bit inv c.loop-at-test.true even w.if-rises.true w.if-bits-last.false)
+          (going_bit inv c.loop-at-test.true even w.if-rises.true w.if-bits-piece.false)
       | else-rises w ↦ rw (w.bits-is, w.value-is) (going_idle inv c.loop-at-test.true even w.if-rises.false)
     ]

@@ -8,7 +8,7 @@ use Rattle.bus_trace.proofs.Lanes.{rise_inside, took_rise, word_passed}
 use Rattle.bus_trace.proofs.scan.take_words.Goals as goal
 
 pub loop-p-init : goal.loop-p-init
-loop-p-init c = going_begun c.requires.0
+loop-p-init c = going_begun c.requires
 
 pub overflow_sub-samples : goal.overflow_sub-samples
 overflow_sub-samples c = c.loop-p.invariant.standing.within
@@ -21,7 +21,6 @@ take_before_high-requires c =
     let s = c.loop-p.invariant.standing in
     let some = c.if-highs-ne0.true in (
       s,
-      c.requires.1,
       omega (arith, c.loop-p-test.true, s.within),
       c.word_at-word.ensures,
       omega (arith, some, c.highs.ensures),
@@ -42,7 +41,6 @@ bits_at-b-requires c =
         room = omega (arith, c.loop-p-test.true, s.within);
         mask = c.rises.ensures ∙ ap (λ (w : ℕ). rises_in (lows_in 8 w) p.p.level w) c.word_at-word.ensures;
       },
-      c.requires.1,
     )
 
 pub overflow_add-result : goal.overflow_add-result
@@ -76,7 +74,7 @@ loop-p-preserved c =
     (sym none-high ∙ c.if-highs-ne0.false)
 
 pub take_each-requires : goal.take_each-requires
-take_each-requires c = (c.loop-p.invariant.standing, c.requires.1)
+take_each-requires c = c.loop-p.invariant.standing
 
 pub returns : goal.returns
 returns c = took_join c.loop-p.invariant c.take_each.ensures
