@@ -9,6 +9,8 @@ use borrow.Author.Tests.{le-leb, lt-leb}
 use lib.ListN.{length, get_or, set, drop, replicate, length-append, get_or-append, replicate-append-replicate}
 use lib.Seq.{set-append_left, drop-append-add, drop-append-le, get_or-append-add}
 use lib.Bits.{bit_or}
+use Rattle.std.specs.List.{sum_by}
+use Rattle.std.proofs.lemmas.List.Sums.{sum_by-cons}
 use lib.Count.{ones, under, count_trailing_zeros}
 use lib.Pow.{shr_lt}
 use Rattle.base_bits.specs.Bits.{bit_at}
@@ -69,6 +71,11 @@ bits_clear (suc k) =
 pub bits_trues : (x : ℕ) (ws : List ℕ) → x < 2 ^ 64 → trues (touched_bits (x ∷ ws)) ≡ ones x + trues (touched_bits ws)
 unfolding touched_bits
 bits_trues x ws h = trues_append (word_bits 64 x) (touched_bits ws) ∙ ap (λ (k : ℕ). k + trues (touched_bits ws)) (word_trues 64 x h)
+
+pub ones_trues : (ws : List ℕ) → ((i : ℕ) → get_or ws i 0 < 2 ^ 64) → sum_by ones ws ≡ trues (touched_bits ws)
+unfolding touched_bits trues
+ones_trues [] h = refl
+ones_trues (x ∷ ws) h = sum_by-cons ones x ws ∙ ap (λ (k : ℕ). ones x + k) (ones_trues ws (λ i. h (suc i))) ∙ sym (bits_trues x ws (h 0))
 
 pub first_zero : (ws : List ℕ) → first_true (touched_bits (0 ∷ ws)) ≡ 64 + first_true (touched_bits ws)
 unfolding touched_bits

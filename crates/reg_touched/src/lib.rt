@@ -2,30 +2,17 @@
 #![tactic(auto)]
 
 ghost use Rattle.std.specs.Prelude.{◌≡◌, ◌+◌, ◌*◌, ◌<◌, ◌≤◌, length, drop};
-ghost use Rattle.reg_touched.specs.Touched.{touched_bits, touched_words, cleared_words, trues, first_true, next_true};
+ghost use Rattle.base_numbers.specs.Numbers.{number_of, amount_of};
+ghost use Rattle.reg_touched.specs.Touched.{touched_bits, touched_words, trues, first_true, next_true};
 ghost use Rattle.reg_touched.specs.Calls.{most_words, words_number, marking, mark_of, touched_count, touched_count_of, searching, search_of};
 
-use base_numbers::{BAD_WORDS, DONE};
+use base_numbers::Refusal;
 
 // How many registers a word has bits for.
 const WORD: usize = 64;
 
 // As many words as the largest map needs.
 const MOST_WORDS: usize = 128;
-
-// What the count answers: the number, and how many registers were touched.
-#[derive(Clone, Copy)]
-pub struct Counted {
-    pub number: u8,
-    pub count: usize,
-}
-
-// What the search answers: the number, and the address found, or that past the last bit.
-#[derive(Clone, Copy)]
-pub struct Found {
-    pub number: u8,
-    pub address: usize,
-}
 
 // Sets the bit of an address, for a write with effect 1 or 2, whether a bit of the register moves or not.
 pub fn touch(words: &mut [u64], address: usize)
@@ -37,37 +24,23 @@ pub fn touch(words: &mut [u64], address: usize)
     words[at] = words[at] | 1u64 << bit;
 }
 
-// The number of a call on so many words.
-fn number_of(words: &[u64]) -> u8
-    ensures { result ≡ words_number words.now }
+// Whether a call on so many words may be made: refused by 16 for too many.
+fn check(words: &[u64]) -> Result<(), Refusal>
+    ensures { number_of result ≡ words_number words.now }
 {
     if MOST_WORDS < words.len() {
-        return BAD_WORDS;
+        return Err(Refusal::BadWords);
     }
-    DONE
-}
-
-// Clears every word.
-fn clear(words: &mut [u64])
-    ensures { words.new ≡ cleared_words words.old }
-{
-    let end = words.len();
-    let mut i: usize = 0;
-    while i < end {
-        words[i] = 0;
-        i += 1;
-    }
+    Ok(())
 }
 
 // A mark: from now on only what is written after it counts as touched. A refusal leaves the words as they were.
-pub fn mark(words: &mut [u64]) -> u8
-    ensures { marking result words.new ≡ mark_of words.old }
+pub fn mark(words: &mut [u64]) -> Result<(), Refusal>
+    ensures { marking (number_of result) words.new ≡ mark_of words.old }
 {
-    let number = number_of(words);
-    if number == DONE {
-        clear(words);
-    }
-    number
+    check(words)?;
+    words.fill(0);
+    Ok(())
 }
 
 // How many bits are set.
@@ -75,30 +48,18 @@ fn count_ones(words: &[u64]) -> usize
     requires { length words.now ≤ most_words }
     ensures { result ≡ trues (touched_bits words.now) }
 {
-    let mut i: usize = 0;
-    let mut sum: usize = 0;
-    while i < words.len() {
-        sum = sum + u64::count_ones(words[i]) as usize;
-        i += 1;
-    }
-    sum
+    words
+        .iter()
+        .map(|word| u64::count_ones(*word) as usize)
+        .sum()
 }
 
 // How many registers were touched.
-pub fn count(words: &[u64]) -> Counted
-    ensures { touched_count result.number result.count ≡ touched_count_of words.now }
+pub fn count(words: &[u64]) -> Result<usize, Refusal>
+    ensures { touched_count (number_of result) (amount_of result) ≡ touched_count_of words.now }
 {
-    let number = number_of(words);
-    if number == DONE {
-        return Counted {
-            number: DONE,
-            count: count_ones(words),
-        };
-    }
-    Counted {
-        number: number,
-        count: 0,
-    }
+    check(words)?;
+    Ok(count_ones(words))
 }
 
 // The first bit that is set in the words from one of them on; past the last bit if there is none.
@@ -106,15 +67,13 @@ fn first_in_words(words: &[u64], from: usize) -> usize
     requires { (length words.now ≤ most_words) × (from ≤ length words.now) }
     ensures { result ≡ 64 * from + first_true (touched_bits (drop from words.now)) }
 {
-    let mut at = from;
-    while at < words.len() {
+    for at in from..words.len() {
         let word = words[at];
         if word != 0 {
             return WORD * at + u64::trailing_zeros(word) as usize;
         }
-        at += 1;
     }
-    WORD * at
+    WORD * words.len()
 }
 
 // The first bit that is set from an address on: in what is left of its word, or in the words after it.
@@ -135,18 +94,9 @@ fn first_from(words: &[u64], address: usize) -> usize
 }
 
 // The first register that was touched from an address on, that one included; 64 times the number of words if there is none.
-pub fn next(words: &[u64], from: u64) -> Found
-    ensures { searching result.number result.address ≡ search_of words.now from }
+pub fn next(words: &[u64], from: u64) -> Result<usize, Refusal>
+    ensures { searching (number_of result) (amount_of result) ≡ search_of words.now from }
 {
-    let number = number_of(words);
-    if number == DONE {
-        return Found {
-            number: DONE,
-            address: first_from(words, from as usize),
-        };
-    }
-    Found {
-        number: number,
-        address: 0,
-    }
+    check(words)?;
+    Ok(first_from(words, from as usize))
 }

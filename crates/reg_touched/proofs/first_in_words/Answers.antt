@@ -11,9 +11,6 @@ use Rattle.reg_touched.specs.Touched.{touched_bits, first_true}
 use Rattle.reg_touched.proofs.Words.{first_zero, first_word}
 use Rattle.reg_touched.proofs.first_in_words.Goals as goal
 
-pub loop-at-init : goal.loop-at-init
-loop-at-init c = (refl, c.requires.1)
-
 pub overflow_mul-result : goal.overflow_mul-result
 overflow_mul-result c = record { fits = omega (arith, c.loop-at-test.true, c.requires.0) }
 
@@ -40,7 +37,7 @@ returns-then-word-ne0 c =
     let ws = c.args.words.now in
     let here = ap (λ (l : List ℕ). first_true (touched_bits l)) (drop-cons ws loop.at 0 (omega (arith, c.loop-at-test.true))) in
     let first = first_word (get_or ws loop.at 0) (drop (suc loop.at) ws) (c.type_inv.words loop.at).fits c.if-word-ne0.true in
-    omega (arith, here, first, loop.invariant.0)
+    omega (arith, here, first, loop.invariant)
 
 pub loop-at-preserved : goal.loop-at-preserved
 loop-at-preserved c =
@@ -49,10 +46,10 @@ loop-at-preserved c =
     let zero_word = ap (λ (x : ℕ). first_true (touched_bits (x ∷ drop (suc loop.at) ws))) c.if-word-ne0.false in
     let here = ap (λ (l : List ℕ). first_true (touched_bits l)) (drop-cons ws loop.at 0 (omega (arith, c.loop-at-test.true))) in
     let next = ap (λ (k : ℕ). first_true (touched_bits (drop k ws))) (add-one loop.at) in
-    (omega (arith, zero_word, here, next, first_zero (drop (suc loop.at) ws), loop.invariant.0), omega (arith, c.loop-at-test.true))
+    omega (arith, zero_word, here, next, first_zero (drop (suc loop.at) ws), loop.invariant)
 
 pub overflow_mul-result-2 : goal.overflow_mul-result-2
-overflow_mul-result-2 c = record { fits = omega (arith, c.loop-at.invariant.1, c.requires.0) }
+overflow_mul-result-2 c = record { fits = omega (arith, c.requires.0) }
 
 pub returns : goal.returns
 unfolding touched_bits first_true
@@ -60,7 +57,7 @@ returns c =
     let loop = c.loop-at in
     let ws = c.args.words.now in
     let none = ap (λ (l : List ℕ). first_true (touched_bits l)) (drop_of_length-le ws {i = loop.at} (omega (arith, c.loop-at-test.false))) in
-    omega (arith, none, nothing, loop.invariant.0)
+    omega (arith, none, nothing, loop.invariant)
   where
     nothing : first_true (touched_bits []) ≡ 0
     nothing = refl

@@ -1,12 +1,9 @@
-use Prim.Native.Nat.{◌+◌, ◌-◌, ◌*◌, ◌≤◌}
+use Prim.Native.Nat.{◌+◌, ◌*◌}
 use mathlib.Core.Path.{◌≡◌}
-use lib.ListN.{length, drop}
+use lib.ListN.{drop}
 use Rattle.reg_touched.specs.Touched.{touched_bits, first_true}
 use Rattle.reg_touched.proofs.first_in_words.Given as goal
 
 abbrev pub invariant-loop-at : goal.invariant-loop-at
 invariant-loop-at l =
-    (64 * l.at + first_true (touched_bits (drop l.at l.words)) ≡ 64 * l.from + first_true (touched_bits (drop l.from l.words))) × (l.at ≤ length l.words)
-
-abbrev pub decreases-loop-at : goal.decreases-loop-at
-decreases-loop-at l = length l.words - l.at
+    64 * l.at + first_true (touched_bits (drop l.at l.words)) ≡ 64 * l.from + first_true (touched_bits (drop l.from l.words))

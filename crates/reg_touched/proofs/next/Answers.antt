@@ -1,15 +1,16 @@
--- `next` meets its contract: the number decides, and the words are searched only where it is 0.
-use mathlib.Core.Path.{sym, ◌∙◌}
+-- `next` meets its contract: the words are searched where the call is not refused.
+use mathlib.Core.Path.{sym}
+use Rattle.std.proofs.lemmas.Result.{err_from_is_err_and}
 use Rattle.reg_touched.proofs.Answer.{few, found, not_found}
 use Rattle.reg_touched.proofs.next.Goals as goal
 
-pub first_from-requires : goal.first_from-requires
-first_from-requires c = few _ (sym c.number_of-number.ensures ∙ c.if-number-eq-DONE.true)
+pub returns-in_err-check : goal.returns-in_err-check
+returns-in_err-check c =
+    let given = err_from_is_err_and c.from_residual.result c.from_residual.ensures.1 in
+    rw (given.1, given.2) (not_found _ _ c.in_err-check.ensures c.args.from)
 
-pub returns-then-number-eq-DONE : goal.returns-then-number-eq-DONE
-returns-then-number-eq-DONE c =
-    found c.args.words.now _ c.number_of-number.ensures c.if-number-eq-DONE.true c.args.from _ c.first_from.ensures
+pub first_from-requires : goal.first_from-requires
+first_from-requires c = few _ (sym c.in_ok-check.ensures)
 
 pub returns : goal.returns
-returns c =
-    not_found c.args.words.now _ c.number_of-number.ensures c.if-number-eq-DONE.false c.args.from
+returns c = found _ (sym c.in_ok-check.ensures) c.args.from _ c.first_from.ensures
