@@ -1,7 +1,8 @@
 -- RULES, "The library for hosts", the next record: samples are read up to and with the first that gives a record, or all of them.
-use Rattle.std.specs.Prelude.{ℕ, ◌+◌, ◌*◌, cond, ◌&&◌, List, [], ◌∷◌, length, take, eqb, leb}
+use Rattle.std.specs.Prelude.{ℕ, ◌+◌, ◌*◌, cond, ◌&&◌, List, [], ◌∷◌, Result, Ok, Err, length, take, eqb, leb}
 use Rattle.base_bits.specs.Tests.{unless}
 use Rattle.base_sizes.specs.Sizes.{record_size}
+use Rattle.base_numbers.specs.declared.Refusal.{Refusal}
 use Rattle.base_numbers.specs.Numbers.{done, bad_session, bad_bank, bad_samples, short_records, bad_top, bad_words}
 use Rattle.map_test.specs.MapTest.{map_number, top_fits}
 use Rattle.base_chip.specs.declared.Chip.{Chip}
@@ -13,6 +14,7 @@ use Rattle.read_records.specs.Records.{records_in}
 use Rattle.read_run.specs.Reading.{ReaderState, record_count}
 use Rattle.read_refusals.specs.Numbers.{banks_fit, words_fit, samples_good}
 use Rattle.read_calls.specs.Calls.{Outcome, outcome, read_of}
+use Rattle.read_next.specs.declared.NextRecord.{NextRecord}
 
 -- how many samples are read
 unfoldable pub taken_of : Chip → Port → List ℕ → ℕ
@@ -40,6 +42,11 @@ next_number c m w samples room =
     unless (eqb (samples_number c m w samples) done) (samples_number c m w samples)
     (unless (leb (record_size * record_count c w.session.port (first_of c w.session.port samples)) room) short_records
     done)
+
+-- what the call found: nothing where it is refused
+abbrev pub found_by : Result NextRecord Refusal → NextRecord
+found_by (Ok next) = next
+found_by (Err refusal) = record { count = 0; taken = 0 }
 
 -- what the call leaves: what a call of the reader leaves, and how many samples were read
 pub record NextOutcome : Type 0 where

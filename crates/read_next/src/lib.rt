@@ -6,50 +6,37 @@
 #![tactic(auto)]
 
 ghost use Rattle.std.specs.Prelude.{◌≡◌, true};
+ghost use Rattle.base_numbers.specs.Numbers.{number_of};
 ghost use Rattle.base_chip.specs.declared.Chip.TheVariants.{Newer, Older};
 ghost use Rattle.bus_session.specs.State.{sound_port};
 ghost use Rattle.read_run.specs.Reading.{reader_state};
 ghost use Rattle.read_calls.specs.Calls.{outcome};
-ghost use Rattle.read_next.specs.NextRecord.{samples_number, next_outcome, next_of};
+ghost use Rattle.read_next.specs.NextRecord.{samples_number, found_by, next_outcome, next_of};
 ghost use Rattle.read_next.specs.Promises.{SearchAfter};
 
 use base_chip::{Chip, Part};
-use base_numbers::{BAD_SESSION, DONE, SHORT_RECORDS};
+use base_numbers::Refusal;
 use base_sizes::RECORD;
 use bus_session::{Port, Session};
 use bus_soundness::sound;
 use bus_trace::next_event;
-use map_test::map_number;
+use map_test::check_map;
 use read_records::records_in;
-use read_refusals::read_refusal;
+use read_refusals::check_read;
 use read_run::run_samples;
 
-// What the call answers: the number, the next session, how many records there are, none or one, and how many samples were read.
+// What the call finds: how many records there are, none or one, and how many samples were read.
 #[derive(Clone, Copy)]
 pub struct NextRecord {
-    pub number: u8,
-    pub session: Session,
     pub count: usize,
     pub taken: usize,
-}
-
-// What a refusal answers: the session as it was given, and nothing read.
-fn refusal(number: u8, session: Session) -> NextRecord
-    ensures { result ≡ record { number = number; session = session; count = 0; taken = 0 } }
-{
-    NextRecord {
-        number: number,
-        session: session,
-        count: 0,
-        taken: 0,
-    }
 }
 
 // Room for the records of any samples that are not refused: 65,536 give at most 21,846.
 const ROOM: usize = RECORD * 21846;
 
-// The number that the samples, and all that comes before them, are refused with; 0 where only the room is left to test.
-fn samples_refusal(
+// Whether the samples, or what comes before them, are refused; then only the room is left to test.
+fn check_samples(
     chip: Chip,
     map: &[u8],
     session: Session,
@@ -57,104 +44,83 @@ fn samples_refusal(
     buffer: &[u8],
     words: &[u64],
     samples: &[u8],
-) -> u8
-    ensures { result
+) -> Result<(), Refusal>
+    ensures { number_of result
         ≡ samples_number chip map.now (reader_state session active.now buffer.now words.now)
         samples.now }
 {
-    let refused = map_number(chip, map);
-    if refused == DONE {
-        return read_refusal(chip, map, session, active, buffer, words, samples, ROOM);
+    match check_map(chip, map) {
+        Ok(()) => check_read(chip, map, session, active, buffer, words, samples, ROOM),
+        Err(_) if !sound(chip, session) => Err(Refusal::BadSession),
+        Err(refused) => Err(refused),
     }
-    if sound(chip, session) {
-        return refused;
-    }
-    BAD_SESSION
 }
 
-// How many samples there are up to and with the first that gives a record, or all of them; and how many records they give.
-#[derive(Clone, Copy)]
-struct First {
-    at: usize,
-    count: usize,
-}
-
-// Looks for the first sample that gives a record.
-fn first_record(chip: Chip, port: Port, samples: &[u8]) -> First
+// Looks for the first sample that gives a record. `next_event` moves the place by as many samples as it passes, which no `for` does.
+fn first_record(chip: Chip, port: Port, samples: &[u8]) -> NextRecord
     requires { sound_port chip port ≡ true }
-    ensures { SearchAfter chip port samples.now result.at result.count }
+    ensures { SearchAfter chip port samples.now result.taken result.count }
 {
     let mut s = port;
-    let mut at: usize = 0;
-    while at < samples.len() {
-        let next = next_event(chip, s, samples, at);
-        let event = next.event;
-        let count = records_in(event);
+    let mut taken = 0;
+    while taken < samples.len() {
+        let next = next_event(chip, s, samples, taken);
+        let count = records_in(next.event);
         s = next.port;
-        at = next.at;
+        taken = next.at;
         if count != 0 {
-            return First {
-                at: at,
-                count: count,
-            };
+            return NextRecord { count, taken };
         }
     }
-    First { at: at, count: 0 }
+    NextRecord { count: 0, taken }
 }
 
 // Reads samples of any chip up to and with the first that gives a record, or all of them.
 pub fn next_on(
     chip: Chip,
     map: &[u8],
-    session: Session,
+    session: &mut Session,
     active: &mut [u8],
     buffer: &mut [u8],
     words: &mut [u64],
     samples: &[u8],
     records: &mut [u8],
-) -> NextRecord
+) -> Result<NextRecord, Refusal>
     ensures { next_outcome
-        (outcome result.number (reader_state result.session active.new buffer.new words.new) result.count records.new)
-        result.taken
-        ≡ next_of chip map.now (reader_state session active.old buffer.old words.old)
+        (outcome (number_of result) (reader_state session.new active.new buffer.new words.new)
+        (found_by result).count records.new) (found_by result).taken
+        ≡ next_of chip map.now (reader_state session.old active.old buffer.old words.old)
         samples.now records.old }
 {
-    let refused = samples_refusal(chip, map, session, active, buffer, words, samples);
-    if refused != DONE {
-        return refusal(refused, session);
-    }
-    let port = session.port;
-    let first = first_record(chip, port, samples);
+    let given = *session;
+    check_samples(chip, map, given, active, buffer, words, samples)?;
+    let first = first_record(chip, given.port, samples);
     if records.len() < RECORD * first.count {
-        return refusal(SHORT_RECORDS, session);
+        return Err(Refusal::ShortRecords);
     }
-    let read = &samples[..first.at];
-    let passed = run_samples(
-        chip, true, map, session, active, buffer, words, read, records,
-    );
-    let after = passed.session;
-    NextRecord {
-        number: DONE,
-        session: after,
+    let read = &samples[..first.taken];
+    let passed = run_samples(chip, true, map, given, active, buffer, words, read, records);
+    *session = passed.session;
+    Ok(NextRecord {
         count: passed.size / RECORD,
-        taken: first.at,
-    }
+        taken: first.taken,
+    })
 }
 
 // Reads samples up to and with the first that gives a record, or all of them.
 pub fn next_record(
     map: &[u8],
-    session: Session,
+    session: &mut Session,
     active: &mut [u8],
     buffer: &mut [u8],
     words: &mut [u64],
     samples: &[u8],
     records: &mut [u8],
-) -> NextRecord
+) -> Result<NextRecord, Refusal>
     ensures { next_outcome
-        (outcome result.number (reader_state result.session active.new buffer.new words.new) result.count records.new)
-        result.taken
-        ≡ next_of Newer map.now (reader_state session active.old buffer.old words.old)
+        (outcome (number_of result) (reader_state session.new active.new buffer.new words.new)
+        (found_by result).count records.new) (found_by result).taken
+        ≡ next_of Newer map.now (reader_state session.old active.old buffer.old words.old)
         samples.now records.old }
 {
     next_on(
@@ -174,22 +140,19 @@ pub fn next_record_older(
     part: Part,
     top: u64,
     map: &[u8],
-    session: Session,
+    session: &mut Session,
     active: &mut [u8],
     buffer: &mut [u8],
     words: &mut [u64],
     samples: &[u8],
     records: &mut [u8],
-) -> NextRecord
+) -> Result<NextRecord, Refusal>
     ensures { next_outcome
-        (outcome result.number (reader_state result.session active.new buffer.new words.new) result.count records.new)
-        result.taken
-        ≡ next_of (Older part top) map.now (reader_state session active.old buffer.old words.old)
+        (outcome (number_of result) (reader_state session.new active.new buffer.new words.new)
+        (found_by result).count records.new) (found_by result).taken
+        ≡ next_of (Older part top) map.now (reader_state session.old active.old buffer.old words.old)
         samples.now records.old }
 {
-    let chip = Chip::Older {
-        part: part,
-        top: top,
-    };
+    let chip = Chip::Older { part, top };
     next_on(chip, map, session, active, buffer, words, samples, records)
 }
