@@ -3,15 +3,29 @@ use Prim.Native.Nat.{ℕ}
 use mathlib.Core.Path.{◌≡◌, refl, ap}
 use mathlib.Core.Bool.{true, false}
 use mathlib.Core.List.{List}
+use Rattle.std.specs.Prelude.{Result, Ok, Err}
+use Rattle.std.specs.Result.{result_unwrap_or}
 use Rattle.base_bits.proofs.Cases.{yes, no}
+use Rattle.base_numbers.specs.declared.Refusal.{Refusal}
+use Rattle.base_numbers.specs.Numbers.{amount_of}
 use Rattle.base_chip.specs.declared.Chip.{Chip}
 use Rattle.bus_session.specs.declared.Session.{Session}
 use Rattle.bus_session_bytes.specs.Layout.{session_bytes, are_session, session_of}
 use Rattle.reg_banks.specs.Banks.{Banks, banks}
 use Rattle.read_run.specs.Reading.{reader_state}
 use Rattle.read_calls.specs.Calls as reader
+use Rattle.read_next.specs.declared.NextRecord.{NextRecord}
 use Rattle.read_next.specs.NextRecord as nextrecord
 use Rattle.host_calls.specs.Calls.{host_opening, host_opening_of, host_open_of, host_outcome, host_outcome_of, host_read_of, host_next, host_next_bytes, host_next_of}
+
+-- a refusal gives no record
+pub amount_or : (r : Result ℕ Refusal) → result_unwrap_or r 0 ≡ amount_of r
+amount_or (Ok n) = refl
+amount_or (Err e) = refl
+
+pub found_or : (r : Result NextRecord Refusal) → result_unwrap_or r (record { count = 0; taken = 0 }) ≡ nextrecord.found_by r
+found_or (Ok n) = refl
+found_or (Err e) = refl
 
 pub opened : (c : Chip) (m : List ℕ) (b₀ : Banks) {n : ℕ} {s : Session} {b : Banks} (bytes : List ℕ) → bytes ≡ session_bytes s
     → reader.opening n s b ≡ reader.open_of c m b₀ → host_opening n bytes b ≡ host_open_of c m b₀

@@ -7,10 +7,11 @@ ghost use Rattle.reg_banks.specs.Banks.{banks};
 ghost use Rattle.host_calls.specs.Calls.{host_opening, host_open_of, host_outcome, host_read_of, host_next, host_next_of};
 
 use base_chip::Chip;
-use base_numbers::BAD_SESSION;
+use base_numbers::{Refusal, number_of};
 use bus_session_bytes::{SIZE, are_session, bytes_of, session_of};
+use bus_soundness::opened;
 use read_calls::{open_on, read_on};
-use read_next::next_on;
+use read_next::{NextRecord, next_on};
 
 // Puts each default in both banks. The opened session is handed back always; a refusal leaves the banks as they were.
 pub fn open(
@@ -23,10 +24,10 @@ pub fn open(
     ensures { host_opening result session.new (banks active.new buffer.new)
         ≡ host_open_of chip map.now (banks active.old buffer.old) }
 {
-    let opened = open_on(chip, map, active, buffer);
-    let fresh = opened.session;
+    let mut fresh = opened();
+    let opening = open_on(chip, map, &mut fresh, active, buffer);
     *session = bytes_of(fresh);
-    opened.number as u32
+    number_of(opening) as u32
 }
 
 // Reads samples: the session, the banks and the words that they lead to, and how many records they gave, from the record buffer's start. A
@@ -47,16 +48,15 @@ pub fn read(
         ≡ host_read_of chip map.now session.old (banks active.old buffer.old) words.old
         samples.now records.old }
 {
-    if are_session(session) {
-        let given = session_of(session);
-        let answer = read_on(chip, map, given, active, buffer, words, samples, records);
-        let next = answer.session;
-        *session = bytes_of(next);
-        *count = answer.count as u64;
-        return answer.number as u32;
+    if !are_session(session) {
+        *count = 0;
+        return u8::from(Refusal::BadSession) as u32;
     }
-    *count = 0;
-    BAD_SESSION as u32
+    let given = &mut session_of(session);
+    let answer = read_on(chip, map, given, active, buffer, words, samples, records);
+    *session = bytes_of(*given);
+    *count = answer.unwrap_or(0) as u64;
+    number_of(answer) as u32
 }
 
 // Reads samples up to and with the first that gives a record, or all of them, and says how many it read. A refusal says that none
@@ -79,16 +79,16 @@ pub fn next_record(
         ≡ host_next_of chip map.now session.old (banks active.old buffer.old) words.old
         samples.now records.old }
 {
-    if are_session(session) {
-        let given = session_of(session);
-        let found = next_on(chip, map, given, active, buffer, words, samples, records);
-        let after = found.session;
-        *session = bytes_of(after);
-        *count = found.count as u64;
-        *taken = found.taken as u64;
-        return found.number as u32;
+    if !are_session(session) {
+        *count = 0;
+        *taken = 0;
+        return u8::from(Refusal::BadSession) as u32;
     }
-    *count = 0;
-    *taken = 0;
-    BAD_SESSION as u32
+    let given = &mut session_of(session);
+    let found = next_on(chip, map, given, active, buffer, words, samples, records);
+    *session = bytes_of(*given);
+    let next = found.unwrap_or(NextRecord { count: 0, taken: 0 });
+    *count = next.count as u64;
+    *taken = next.taken as u64;
+    number_of(found) as u32
 }
