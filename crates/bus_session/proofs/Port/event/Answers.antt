@@ -1,11 +1,10 @@
 -- `Port::event` meets its contract: the tests of the definition, in its order, where the code joins two of them that both have to hold.
 use Prim.Native.Nat.{ℕ}
-use mathlib.Core.Path.{◌≡◌, refl, ap, sym, ◌∙◌}
+use mathlib.Core.Path.{◌≡◌, refl, ap, ◌∙◌}
 use mathlib.Core.Bool.{Bool, true, false, cond, not, ◌&&◌, ◌||◌}
-use native.Mathlib.Omega.{arith}
 use lib.Dec.{eqb, ltb}
-use borrow.Author.Tests.{not-false, eq-eqb, ne_eqb}
-use Rattle.base_bits.proofs.Cases.{yes, no, or_left}
+use borrow.Author.Tests.{eq-eqb, ne_eqb}
+use Rattle.base_bits.proofs.Cases.{yes, no}
 use Rattle.base_chip.specs.declared.Chip.{Chip}
 use Rattle.bus_settings.specs.declared.InUse.{InUse}
 use Rattle.bus_session.specs.declared.Port.{Port}
@@ -14,7 +13,6 @@ use Rattle.bus_session.specs.declared.Event.TheVariants.{Nothing, Whole, Aborted
 use Rattle.bus_session.specs.Step.{sdio_of, sdo_of, csb_of, csb_rises, takes_bit, value_with, data_line}
 use Rattle.bus_session.specs.State.{is_data, may_stall}
 use Rattle.bus_session.specs.Event.{bit_event, end_event, event_of}
-use Rattle.bus_session.proofs.Laws.{byte_lt, room_for_bit}
 use Rattle.bus_session.proofs.Port.event.Goals as goal
 
 -- nothing where the first test fails or the second holds
@@ -50,15 +48,6 @@ returns-then-data-self c =
     let a = c.args in
     yes _ c.if-takes_bit.true (yes _ c.if-data-self.true refl)
     ∙ event_by_lem a.chip a.self a.sample c.takes_bit.ensures c.is_data-data.ensures refl refl
-
-pub shift_in-value-requires : goal.shift_in-value-requires
-shift_in-value-requires c =
-    room_for_bit c.args.self c.requires
-
-pub overflow_cast-result : goal.overflow_cast-result
-overflow_cast-result c =
-    let d = sym c.is_data-data.ensures ∙ not-false _ (or_left _ _ c.if-data-self.false) in
-    omega (arith, c.shift_in-value.ensures, byte_lt c.args.self c.data_line-bit.result c.requires d)
 
 pub returns-then-takes_bit : goal.returns-then-takes_bit
 returns-then-takes_bit c =

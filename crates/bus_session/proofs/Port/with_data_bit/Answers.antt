@@ -2,16 +2,14 @@
 use Prim.Native.Nat.{ℕ, ◌+◌}
 use mathlib.Core.Bool.{Bool, true, cond}
 use mathlib.Core.Path.{◌≡◌, refl, ap, ◌∙◌}
-use native.Mathlib.Omega.{arith}
 use lib.Dec.{ltb}
 use borrow.Author.Tests.{lt-ltb, le-ltb}
 use Rattle.base_bits.proofs.Cases.{yes, no}
 use Rattle.base_chip.specs.declared.Chip.{Chip}
 use Rattle.bus_settings.specs.declared.Settings.{Settings}
 use Rattle.bus_session.specs.declared.Port.{Port}
-use Rattle.bus_session.specs.State.{in_data, is_data}
+use Rattle.bus_session.specs.State.{in_data}
 use Rattle.bus_session.specs.Step.{value_with, settings_on_byte, after_byte, with_data_bit}
-use Rattle.bus_session.proofs.Laws.{byte_lt, room_for_bit}
 use Rattle.bus_session.proofs.Port.with_data_bit.Goals as goal
 
 -- s with one more bit, by the value that it makes, and the settings after a whole byte
@@ -25,15 +23,8 @@ bit_by_lem k s b e f =
     let h = f ∙ ap (settings_on_byte k s) e in
     λ i. bit_by k s (e i) (h i)
 
-pub shift_in-value-requires : goal.shift_in-value-requires
-shift_in-value-requires c = room_for_bit c.args.self c.requires.0
-
 pub returns-then-self-lt7 : goal.returns-then-self-lt7
 returns-then-self-lt7 c = yes _ (lt-ltb _ _ c.if-self-lt7.true) c.in_data.ensures ∙ bit_by_lem _ _ _ c.shift_in-value.ensures refl
-
-pub overflow_cast-value : goal.overflow_cast-value
-overflow_cast-value c =
-    omega (arith, c.shift_in-value.ensures, byte_lt c.args.self c.args.bit c.requires.0 (ap is_data c.requires.1))
 
 pub returns : goal.returns
 returns c =

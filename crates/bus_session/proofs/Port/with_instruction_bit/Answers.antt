@@ -9,7 +9,6 @@ use Rattle.base_chip.specs.declared.Chip.{Chip}
 use Rattle.bus_session.specs.declared.Port.{Port}
 use Rattle.bus_session.specs.State.{instructing}
 use Rattle.bus_session.specs.Step.{value_with, entered, with_instruction_bit}
-use Rattle.bus_session.proofs.Laws.{room_for_bit}
 use Rattle.bus_session.proofs.Port.with_instruction_bit.Goals as goal
 
 -- s with one more bit, by the value that it makes
@@ -21,9 +20,6 @@ bit_by k s v =
 bit_by_lem : (k : Chip) (s : Port) (b : Bool) {v : ℕ} → v ≡ value_with s b → bit_by k s v ≡ with_instruction_bit k s b
 unfolding with_instruction_bit
 bit_by_lem k s b e = ap (bit_by k s) e
-
-pub shift_in-value-requires : goal.shift_in-value-requires
-shift_in-value-requires c = room_for_bit c.args.self c.requires
 
 pub returns-then-self-lt15 : goal.returns-then-self-lt15
 returns-then-self-lt15 c =
