@@ -1,5 +1,5 @@
 -- What the call leaves: the number, test by test, and the orders at the start of the buffer, or the buffer as it was.
-use mathlib.Core.Path.{◌≡◌, refl, sym, ◌∙◌}
+use mathlib.Core.Path.{◌≡◌, refl, sym}
 use mathlib.Core.Bool.{Bool, true, false}
 use mathlib.Core.List.{List}
 use Prim.Native.Nat.{ℕ, suc, ◌≤◌, ◌<◌}
@@ -7,11 +7,14 @@ use native.Mathlib.Omega.{arith}
 use native.Mathlib.Nat.{suc-ne-zero}
 use lib.ListN.{length}
 use lib.Dec.{leb}
-use borrow.Author.Tests.{eq-eqb, ne_eqb, leb-true, le-leb, lt-leb}
+use borrow.Author.Tests.{eq-eqb, leb-true, le-leb, lt-leb}
 use Rattle.base_bits.specs.Tests.{every, unless}
 use Rattle.base_bits.specs.Buffer.{Put}
 use Rattle.base_bits.proofs.Cases.{yes, no}
 use Rattle.base_bits.proofs.Putting.{put_filled}
+use Rattle.base_numbers.specs.Numbers.{refusal_number}
+use Rattle.base_numbers.specs.declared.Refusal.{Refusal}
+use Rattle.base_numbers.proofs.Numbers.{not_done}
 use Rattle.send_frames.specs.Frames.{wanted_of, stretches_of, frames_of}
 use Rattle.send_frames.specs.Calls.{registers_tests, frames_bytes, frames_number, making, make_of}
 use Rattle.send_frames.specs.Rows.{stretches_size}
@@ -53,16 +56,15 @@ module _ (up : Bool) (addresses bytes : List ℕ) where
       record { good = a.0; enough = leb-true (length (frames_bytes up addresses bytes)) room b.0 }
 
   module _ (old : List ℕ) where
-    pub done :
-        (k n : ℕ) (new : List ℕ) → k ≡ frames_number up addresses bytes (length old) → k ≡ 0 → Put old 0 (frames_bytes up addresses bytes) n new
+    pub done : (n : ℕ) (new : List ℕ) → 0 ≡ frames_number up addresses bytes (length old) → Put old 0 (frames_bytes up addresses bytes) n new
         → making 0 n new ≡ make_of up addresses bytes old
     unfolding make_of
-    done k n new e z p =
-        let number : frames_number up addresses bytes (length old) ≡ 0 = sym e ∙ z in
+    done n new e p =
         let count : n ≡ length (frames_bytes up addresses bytes) = omega (arith, p.next_place) in
-        let buffer = put_filled (passed (length old) number).enough p in
-        yes _ (eq-eqb _ _ number) (cc)
+        let buffer = put_filled (passed (length old) (sym e)).enough p in
+        yes _ (eq-eqb _ _ (sym e)) (cc)
 
-    pub refused : (k : ℕ) → k ≡ frames_number up addresses bytes (length old) → (k ≡ 0 → ⊥) → making k 0 old ≡ make_of up addresses bytes old
+    pub refused : (e : Refusal) → refusal_number e ≡ frames_number up addresses bytes (length old)
+        → making (refusal_number e) 0 old ≡ make_of up addresses bytes old
     unfolding make_of
-    refused k e h = rw (← e) (no _ (ne_eqb _ _ h) refl)
+    refused e h = rw (← h) (no _ (not_done e) refl)

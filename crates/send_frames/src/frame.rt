@@ -26,7 +26,8 @@ fn put_word(x: u16, out: &mut [u8], at: usize) -> usize
     requires { at + 2 ≤ length out.old }
     ensures { Put out.old at (word_bytes x) result out.new }
 {
-    put_pair((x / 256) as u8, (x % 256) as u8, out, at)
+    let bytes = x.to_be_bytes();
+    put_pair(bytes[0], bytes[1], out, at)
 }
 
 // Puts what stands before the data of a write: its length, version, direction, start and count.
@@ -58,11 +59,9 @@ fn put_data(ascending: bool, bytes: &[u8], out: &mut [u8], at: usize) -> usize
     ensures { Put out.old at (data_of ascending bytes.now) result out.new }
 {
     let mut n = at;
-    let mut i: usize = 0;
-    while i < bytes.len() {
+    for i in 0..bytes.len() {
         out[n] = byte_at(ascending, bytes, i);
         n += 1;
-        i += 1;
     }
     n
 }

@@ -12,12 +12,10 @@ const MOST_REGISTERS: usize = 1000;
 fn rises(addresses: &[u16]) -> bool
     ensures { result ≡ rising addresses.now }
 {
-    let mut i: usize = 0;
-    while i + 1 < addresses.len() {
-        if addresses[i + 1] <= addresses[i] {
+    for pair in addresses.windows(2) {
+        if pair[1] <= pair[0] {
             return false;
         }
-        i += 1;
     }
     true
 }
@@ -34,12 +32,10 @@ fn may_be_listed(address: u16) -> bool
 fn all_may_be_listed(addresses: &[u16]) -> bool
     ensures { result ≡ all_may_be_listed addresses.now }
 {
-    let mut i: usize = 0;
-    while i < addresses.len() {
-        if !may_be_listed(addresses[i]) {
+    for address in addresses {
+        if !may_be_listed(*address) {
             return false;
         }
-        i += 1;
     }
     true
 }

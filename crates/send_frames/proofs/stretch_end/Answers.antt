@@ -27,4 +27,4 @@ loop-end-preserved c = (
 )
 
 pub returns : goal.returns
-returns c = row_last c.loop-end.invariant.1 c.loop-end-test.false
+returns c = omega (arith, row_last c.loop-end.invariant.1 c.loop-end-test.false, c.loop-end.invariant.1.within)

@@ -27,12 +27,6 @@ overflow_add-n c =
     next_fits c.loop-i.invariant.1 (next_byte _ _ left) in
     omega (arith, fits, c.loop-i.invariant.1.same)
 
-pub overflow_add-i : goal.overflow_add-i
-overflow_add-i c = omega arith
-
-pub loop-i-smaller : goal.loop-i-smaller
-loop-i-smaller c = omega arith
-
 pub loop-i-preserved : goal.loop-i-preserved
 loop-i-preserved c =
     let left : c.loop-i.i < length (data_of c.args.ascending c.args.bytes.now) =

@@ -1,22 +1,22 @@
--- `rises` meets its contract: the rest of the list decides, until two addresses do not rise or the last is reached.
-use mathlib.Core.Path.{refl}
-use native.Mathlib.Omega.{arith}
-use Rattle.send_frames.proofs.Listed.{falls, rises_on, rises_all}
+-- `rises` meets its contract: the rest of the list decides, until two addresses do not rise or no two are left.
+use mathlib.Core.Path.{sym, ◌∙◌}
+use borrow.Author.Tests.{lt-ltb, le-ltb}
+use Rattle.send_frames.proofs.Listed.{next_pair, no_pair}
 use Rattle.send_frames.proofs.registers.rises.Goals as goal
 
-pub loop-i-init : goal.loop-i-init
-loop-i-init c = record { within = omega arith; rest = refl }
+pub returns-then-pair : goal.returns-then-pair
+returns-then-pair c =
+    let i = c.loop-pair.invariant in
+    let n = next_pair c.loop-pair.pair-iterator c.next.new.self _ _ c.in-Some.is c.next.ensures.steps i.0 in
+    sym (n.1 ∙ rw (le-ltb _ _ c.if-pair.true)) ∙ i.1
 
-pub returns-then-addresses-i : goal.returns-then-addresses-i
-returns-then-addresses-i c =
-    falls c.loop-i.invariant (omega (arith, c.loop-i-test.true)) (omega (arith, c.if-addresses-i.true))
-
-pub loop-i-smaller : goal.loop-i-smaller
-loop-i-smaller c = omega arith
-
-pub loop-i-preserved : goal.loop-i-preserved
-loop-i-preserved c =
-    rises_on c.loop-i.invariant (omega (arith, c.loop-i-test.true)) (omega (arith, c.if-addresses-i.false))
+pub loop-pair-preserved : goal.loop-pair-preserved
+loop-pair-preserved c =
+    let i = c.loop-pair.invariant in
+    let n = next_pair c.loop-pair.pair-iterator c.next.new.self _ _ c.in-Some.is c.next.ensures.steps i.0 in
+    (n.0, sym (n.1 ∙ rw (lt-ltb _ _ c.if-pair.false)) ∙ i.1)
 
 pub returns : goal.returns
-returns c = rises_all c.loop-i.invariant c.loop-i-test.false
+returns c =
+    let i = c.loop-pair.invariant in
+    no_pair c.loop-pair.pair-iterator c.next.new.self _ c.in-None.is c.next.ensures.steps i.0 ∙ i.1

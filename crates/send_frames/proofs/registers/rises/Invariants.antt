@@ -1,10 +1,8 @@
-use Prim.Native.Nat.{◌-◌}
-use lib.ListN.{length}
-use Rattle.send_frames.proofs.Listed.{Rising}
+use mathlib.Core.Path.{◌≡◌}
+use Rattle.std.specs.Slice.Iter.{windows_size, windows_rest}
+use Rattle.send_frames.specs.Calls.{rising}
 use Rattle.send_frames.proofs.registers.rises.Given as goal
 
-abbrev pub invariant-loop-i : goal.invariant-loop-i
-invariant-loop-i l = Rising l.addresses l.i
-
-abbrev pub decreases-loop-i : goal.decreases-loop-i
-decreases-loop-i l = length l.addresses - l.i
+abbrev pub invariant-loop-pair : goal.invariant-loop-pair
+invariant-loop-pair l =
+    (windows_size l.pair-iterator ≡ 2) × (rising (windows_rest l.pair-iterator) ≡ rising l.addresses)
