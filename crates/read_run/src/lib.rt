@@ -48,7 +48,8 @@ fn run_end(s: ScanPort, told: EventOutcome) -> RunEnd
 }
 
 // Reads samples; or only counts their records where none is put. This is the one hot loop. Every way through it ends at its last line, and
-// what it calls is small or has no other caller: how it is cut decides how fast it is (docs/decisions/layout.md).
+// what it calls is small or has no other caller: how it is cut decides how fast it is (docs/decisions/layout.md). No `for` fits: each scan
+// moves the place by as many samples as it passes.
 pub fn run_samples(
     chip: Chip,
     storing: bool,
