@@ -5,8 +5,8 @@ use mathlib.Core.List.{List}
 use Prim.Native.Nat.{ℕ, ◌<◌}
 use native.Mathlib.Omega.{arith}
 use borrow.Author.Tests.{eqb-true}
-use lib.ListN.{length, get_or, set, length-set}
-use lib.Seq.{get_or-set_same, set-get_or}
+use lib.ListN.{length, get_or, length-set}
+use lib.Seq.{get_or-set_same}
 use lib.Bits.{bit_xor}
 use lib.Dec.{eqb}
 use Rattle.base_bits.specs.Bits.{bit_at, merged}
@@ -19,14 +19,14 @@ use Rattle.base_chip.specs.declared.Chip.{Chip}
 use Rattle.base_chip.specs.Chip.{is_newer}
 use Rattle.bus_settings.specs.declared.Settings.{Settings}
 use Rattle.bus_settings.specs.Settings.{resets, transfers_at}
-use Rattle.reg_banks.specs.Banks.{Banks, banks, Mapped}
+use Rattle.reg_banks.specs.Banks.{Banks, Mapped}
 use Rattle.reg_banks.proofs.Laws.{mapped_defaults, mapped_transfer, in_banks}
 use Rattle.reg_write.specs.declared.Stages.{Stages}
 use Rattle.reg_write.specs.declared.Effect.{Effect}
 use Rattle.reg_write.specs.declared.Effect.TheVariants.{Nothing, Byte, Control, Transfer, Reset, Ignored}
 use Rattle.reg_write.specs.declared.Written.{Written}
 use Rattle.reg_write.specs.Effect.{control_effect, moved_bits, effect_of, byte_effect}
-use Rattle.reg_write.specs.Write.{stages_at, effect_at, with_byte, applied, on_byte, ByteBelow, touches_on, write_banks, written, written_by, written_of}
+use Rattle.reg_write.specs.Write.{effect_at, applied, on_byte, ByteBelow, touches_on, write_banks, written, written_by, written_of}
 use Rattle.reg_write.specs.Rise.{moves_at_rise, armed_by, armed_on, rise_banks}
 
 -- ---- no effect on a control register is on a byte
@@ -198,12 +198,6 @@ pub byte_number : (c : Chip) (t : Settings) (a v : ℕ) (ofBuffer : Bool) (at by
 unfolding written_by
 byte_number c t a v true at byte moved h = rw h refl
 byte_number c t a v false at byte moved h = rw h refl
-
--- one stage takes the byte, and the other what it had
-pub byte_put : (b : Banks) (at byte : ℕ) (ofBuffer : Bool) {s : Stages} {x y : ℕ} → s ≡ stages_at b at → x ≡ cond ofBuffer s.active byte
-    → y ≡ cond ofBuffer byte s.buffer → banks (set b.active at x) (set b.buffer at y) ≡ with_byte ofBuffer b at byte
-byte_put b at byte true es ex ey = rw (ey, ex, es) (ap (λ (l : List ℕ). banks l (set b.buffer at byte)) (set-get_or b.active at 0))
-byte_put b at byte false es ex ey = rw (ey, ex, es) (ap (λ (l : List ℕ). banks (set b.active at byte) l) (set-get_or b.buffer at 0))
 
 -- a buffered register's byte arms a session that the rise concerns, without a branch
 pub armed_joined : (armed one moves : Bool) → (armed || (one && moves)) ≡ cond one (armed || moves) armed

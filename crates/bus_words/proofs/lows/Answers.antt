@@ -1,13 +1,9 @@
 -- `lows` meets its contract: each lane without a bit has eight zeros.
 use mathlib.Core.Path.{ap, ◌∙◌}
 use native.Mathlib.Omega.{arith}
-use lib.Count.{count_trailing_zeros, trailing_le}
-use lib.Bits.{bit_and}
+use lib.Count.{count_trailing_zeros}
 use Rattle.bus_words.proofs.Lanes.{highs_mask, lows_zeros}
 use Rattle.bus_words.proofs.lows.Goals as goal
-
-pub overflow_cast-result : goal.overflow_cast-result
-overflow_cast-result c = omega (arith, trailing_le 64 (bit_and c.args.word 0x0101010101010101))
 
 pub returns : goal.returns
 returns c =

@@ -1,13 +1,8 @@
 -- `apply` meets its contract: one equation of the definition for each effect.
 use mathlib.Core.Logic.{inl, inr}
-use mathlib.Core.Path.{refl, sym, ◌∙◌}
+use mathlib.Core.Path.{refl}
 use Rattle.reg_write.specs.Write.{applied}
 use Rattle.reg_write.proofs.apply.Goals as goal
-
-pub put_byte-requires : goal.put_byte-requires
-put_byte-requires c =
-    let pre = c.requires in
-    (pre.0.buffer_size ∙ sym pre.0.active_size, pre.1 _ _ _ _ c.in-Byte.is)
 
 pub returns-in-Nothing : goal.returns-in-Nothing
 unfolding applied

@@ -2,12 +2,9 @@
 use mathlib.Core.Path.{ap, ◌∙◌}
 use native.Mathlib.Omega.{arith}
 use Rattle.reg_banks.specs.Banks.{defaults_from}
-use Rattle.reg_banks.proofs.Filling.{filling_begun, stored, ended}
+use Rattle.reg_banks.proofs.Filling.{stored, ended}
 use Rattle.reg_banks.proofs.Laws.{defaults_rule}
 use Rattle.reg_banks.proofs.banks.put_defaults.Goals as goal
-
-pub loop-i-init : goal.loop-i-init
-loop-i-init c = filling_begun _ _
 
 pub loop-i-preserved : goal.loop-i-preserved
 loop-i-preserved c =

@@ -8,13 +8,10 @@ use mathlib.Core.List.{List}
 use Rattle.base_bits.proofs.Cases.{yes, no}
 use Rattle.map_format.specs.Format.{register_at}
 use Rattle.reg_banks.specs.Banks.{banks, transferred}
-use Rattle.reg_banks.proofs.Filling.{filling_begun, stored, ended}
+use Rattle.reg_banks.proofs.Filling.{stored, ended}
 use Rattle.reg_banks.proofs.Laws.{transfer_rule}
 use Rattle.reg_banks.proofs.banks.transfer.Goals as goal
 use Rattle.reg_banks.proofs.banks.transfer.Goals.{then-entry_at-eq-BUFFERED, else-entry_at-eq-BUFFERED}
-
-pub loop-i-init : goal.loop-i-init
-loop-i-init c = filling_begun _ _
 
 pub loop-i-preserved : goal.loop-i-preserved
 loop-i-preserved c =
