@@ -2,13 +2,13 @@
 #![tactic(auto)]
 
 ghost use Rattle.std.specs.Prelude.{◌≡◌, true, cond, ◌&&◌, List, [], ℕ, ◌+◌, ◌*◌, ◌<◌, ◌≤◌, leb, length};
+ghost use Rattle.base_bits.specs.Bits.{bit_at};
 ghost use Rattle.base_bits.specs.Tests.{every};
 ghost use Rattle.base_numbers.specs.Numbers.{number_of};
 ghost use Rattle.base_chip.specs.Chip.{top_good};
 ghost use Rattle.send_order.specs.Order.{with_data, goes_up, is_single, run_from};
 ghost use Rattle.send_order.specs.Number.{configures_early, count_tests, most_settings, up_to, addresses_good, send_number};
 
-use base_bits::bit_at;
 use base_chip::{CONFIGURATION_A, CONFIGURATION_B, Chip, is_newer, top_good};
 use base_numbers::Refusal;
 use bus_settings::next_address;
@@ -29,25 +29,30 @@ pub struct Order {
     pub count: u64,
 }
 
+// Whether an order has a setting, by its bit of the settings number, which may be any.
+fn has(order: Order, setting: u8) -> bool
+    requires { setting < 3 }
+    ensures { result ≡ bit_at order.settings setting }
+{
+    (order.settings >> setting) % 2 == 1
+}
+
 // Whether the addresses of an order's run go up on a chip.
 fn goes_up(chip: Chip, order: Order) -> bool
-    requires { order.settings ≤ 7 }
     ensures { result ≡ goes_up chip (with_data order []) }
 {
-    let s = order.settings as u8;
     if is_newer(chip) {
-        bit_at(s, ORDER_ASCENDING)
+        has(order, ORDER_ASCENDING)
     } else {
-        bit_at(s, ORDER_LSB_FIRST)
+        has(order, ORDER_LSB_FIRST)
     }
 }
 
 // Whether each byte of an order's run has its own instruction.
 fn is_single(chip: Chip, order: Order) -> bool
-    requires { order.settings ≤ 7 }
     ensures { result ≡ is_single chip (with_data order []) }
 {
-    is_newer(chip) & bit_at(order.settings as u8, ORDER_SINGLE_INSTRUCTION)
+    is_newer(chip) & has(order, ORDER_SINGLE_INSTRUCTION)
 }
 
 // The highest settings number that names settings of a chip.
@@ -89,7 +94,7 @@ fn stays_up_to(top: u64, up: bool, start: u64, count: u64) -> bool
 
 // Whether a chip has the addresses of an order.
 fn addresses_good(chip: Chip, order: Order) -> bool
-    requires { (top_good chip ≡ true) × (order.settings ≤ 7) × (1 ≤ order.count) }
+    requires { (top_good chip ≡ true) × (1 ≤ order.count) }
     ensures { (bytes : List ℕ) → every (count_tests (with_data order bytes)) ≡ true → result ≡ addresses_good chip (with_data order bytes) }
 {
     match chip {

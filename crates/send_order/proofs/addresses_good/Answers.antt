@@ -12,7 +12,7 @@ use Rattle.send_order.proofs.addresses_good.Goals as goal
 pub stays_up_to-requires : goal.stays_up_to-requires
 stays_up_to-requires c =
     let pre = c.requires in
-    (omega (arith, top_low c.in-Older.part c.in-Older.top (sym (ap top_good c.in-Older.is) ∙ pre.0)), pre.2)
+    (omega (arith, top_low c.in-Older.part c.in-Older.top (sym (ap top_good c.in-Older.is) ∙ pre.0)), pre.1)
 
 pub returns-in-Newer : goal.returns-in-Newer
 returns-in-Newer c =

@@ -3,22 +3,14 @@ use mathlib.Core.Path.{◌≡◌, sym, ◌∙◌}
 use mathlib.Core.Bool.{true}
 use Prim.Native.Nat.{◌≤◌}
 use native.Mathlib.Omega.{arith}
-use lib.Dec.{leb}
-use borrow.Author.Tests.{leb-true}
 use Rattle.base_bits.specs.Tests.{every}
-use Rattle.base_bits.proofs.Cases.{and_right}
 use Rattle.base_chip.specs.declared.Chip.{Chip}
 use Rattle.base_chip.specs.Chip.{top_good}
 use Rattle.send_order.specs.Order.{Order, with_data}
-use Rattle.send_order.specs.Number.{count_tests, most_settings}
-use Rattle.send_order.proofs.Laws.{counted, settings_few, start_near}
+use Rattle.send_order.specs.Number.{count_tests}
+use Rattle.send_order.proofs.Laws.{counted, start_near}
 use Rattle.send_order.proofs.Refusals.{named, early_data, Within, number_12, number_7, number_8, number_9, number_10, number_11, number_0}
 use Rattle.send_order.proofs.check.Goals as goal
-
--- a settings number that passes names settings of a chip
-few_settings : (chip : Chip) (o : Order) → named chip o ≡ true → o.settings ≤ 7
-few_settings chip o known =
-    settings_few chip o (leb-true o.settings (most_settings chip) (and_right (leb o.direction 1) (leb o.settings (most_settings chip)) known))
 
 -- an order that passes starts below 0x8000
 near : (chip : Chip) (o : Order) → Within chip o → o.start ≤ 0x7FFF
@@ -52,7 +44,7 @@ addresses_good-requires c =
     let passed_12 : top_good chip ≡ true = sym c.top_good.ensures ∙ c.if-not-top_good.false in
     let passed_7 : named chip o ≡ true = sym c.is_named.ensures ∙ c.if-not-is_named.false in
     let passed_8 : every (count_tests o) ≡ true = sym c.count_fits.ensures ∙ c.if-not-count_fits.false in
-    (passed_12, few_settings chip o passed_7, (counted o passed_8).some)
+    (passed_12, (counted o passed_8).some)
 
 pub returns-then-not-addresses_good : goal.returns-then-not-addresses_good
 returns-then-not-addresses_good c =
@@ -62,20 +54,6 @@ returns-then-not-addresses_good c =
     let passed_7 : named chip o ≡ true = sym c.is_named.ensures ∙ c.if-not-is_named.false in
     let passed_8 : every (count_tests o) ≡ true = sym c.count_fits.ensures ∙ c.if-not-count_fits.false in
     number_9 chip o _ passed_12 passed_7 passed_8 (sym (c.addresses_good.ensures _ passed_8) ∙ c.if-not-addresses_good.true)
-
-pub is_single-single_instruction-requires : goal.is_single-single_instruction-requires
-is_single-single_instruction-requires c =
-    let chip = c.args.chip in
-    let o = with_data c.args.order c.args.«data».now in
-    let passed_7 : named chip o ≡ true = sym c.is_named.ensures ∙ c.if-not-is_named.false in
-    few_settings chip o passed_7
-
-pub goes_up-requires : goal.goes_up-requires
-goes_up-requires c =
-    let chip = c.args.chip in
-    let o = with_data c.args.order c.args.«data».now in
-    let passed_7 : named chip o ≡ true = sym c.is_named.ensures ∙ c.if-not-is_named.false in
-    few_settings chip o passed_7
 
 pub overflow_cast-order : goal.overflow_cast-order
 overflow_cast-order c =

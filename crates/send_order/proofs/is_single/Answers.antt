@@ -2,4 +2,4 @@
 use Rattle.send_order.proofs.is_single.Goals as goal
 
 pub returns : goal.returns
-returns c = rw (c.is_newer.ensures, c.bit_at.ensures)
+returns c = rw (c.is_newer.ensures, c.has.ensures)
