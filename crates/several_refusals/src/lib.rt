@@ -2,6 +2,7 @@
 #![tactic(auto)]
 
 ghost use Rattle.std.specs.Prelude.{◌≡◌};
+ghost use Rattle.base_numbers.specs.Numbers.{number_of};
 ghost use Rattle.several_chips.specs.Numbers.{several_number};
 ghost use Rattle.several_chips.specs.Promises.{AllBytes};
 
@@ -11,50 +12,47 @@ mod room;
 mod samples;
 
 use base_chip::Chip;
-use base_numbers::{BAD_BANK, BAD_CHIPS, BAD_SAMPLES, BAD_SESSION, DONE, SHORT_RECORDS};
-use map_test::map_number;
+use base_numbers::Refusal;
+use map_test::check_map;
 use members::all_sound;
 use memory::{ranges_fit, ranges_good};
 use room::room_suffices;
 use samples::samples_good;
 use several_chips::Member;
 
-// The number of reading several chips with a bank memory of some size and a record buffer of some room: 0, or the refusal. Where it is 0,
-// the sessions hold bytes: a list that is lent does not say so.
-pub fn several_refusal(
+// Whether reading several chips is refused, with a bank memory of some size and a record buffer of some room. Where it is not, the
+// sessions hold bytes: a list that is lent does not say so.
+pub fn check_several(
     map: &[u8],
     members: &[Member],
     size: usize,
     samples: &[u8],
     room: usize,
-) -> u8
-    ensures number { result ≡ several_number map.now members.now size samples.now room }
-    ensures bytes { result ≡ 0 → AllBytes members.now }
+) -> Result<(), Refusal>
+    ensures number { number_of result ≡ several_number map.now members.now size samples.now room }
+    ensures bytes { number_of result ≡ 0 → AllBytes members.now }
 {
     let none = members.len() < 1;
     let many = 8 < members.len();
     let miscounted = none | many;
     if miscounted {
-        return BAD_CHIPS;
+        return Err(Refusal::BadChips);
     }
     if !ranges_good(members, size) {
-        return BAD_CHIPS;
+        return Err(Refusal::BadChips);
     }
     if !all_sound(members) {
-        return BAD_SESSION;
+        return Err(Refusal::BadSession);
     }
-    let number = map_number(Chip::Newer, map);
-    if number != DONE {
-        return number;
-    }
+    check_map(Chip::Newer, map)?;
     if !ranges_fit(members, map_format::count(map)) {
-        return BAD_BANK;
+        return Err(Refusal::BadBank);
     }
     if !samples_good(members.len(), samples) {
-        return BAD_SAMPLES;
+        return Err(Refusal::BadSamples);
     }
-    if room_suffices(members, samples, room) {
-        return DONE;
+    if !room_suffices(members, samples, room) {
+        return Err(Refusal::ShortRecords);
     }
-    SHORT_RECORDS
+    Ok(())
 }

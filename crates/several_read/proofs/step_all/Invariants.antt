@@ -1,13 +1,9 @@
 -- What the loop of `step_all` keeps, and what falls: the turns left.
-use mathlib.Core.Path.{◌≡◌}
-use Rattle.several_read.proofs.Reached.{Reached, end_of, turns_left}
+use Rattle.several_read.proofs.Reached.{Reached, turns_left}
 use Rattle.several_read.proofs.step_all.Given as goal
 
 abbrev pub invariant-loop-turn : goal.invariant-loop-turn
-invariant-loop-turn l = record {
-  ending : l.end ≡ end_of l.fn.number l.fn.samples;
-  reached : Reached l.fn.map l.fn.members l.fn.memory l.fn.samples l.fn.records l.fn.number l.turn l.members l.memory l.records;
-}
+invariant-loop-turn l = Reached l.fn.map l.fn.members l.fn.memory l.fn.samples l.fn.records l.turn l.members l.memory l.records
 
 abbrev pub decreases-loop-turn : goal.decreases-loop-turn
 decreases-loop-turn l = turns_left l.end l.turn
