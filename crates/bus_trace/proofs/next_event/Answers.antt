@@ -8,30 +8,17 @@ use Rattle.bus_trace.proofs.next_event.Goals as goal
 pub loop-at-init : goal.loop-at-init
 loop-at-init c = (refl, scan_begun _ c.requires.0 (omega arith))
 
-pub quiet-p-requires : goal.quiet-p-requires
-quiet-p-requires c = (c.loop-at.invariant.1.sound, c.loop-at.invariant.1.within)
-
-pub bounds-samples-at : goal.bounds-samples-at
-bounds-samples-at c = c.if-samples-at.false
-
 pub event-event-requires : goal.event-event-requires
 event-event-requires c = fit_sound _ _ c.quiet-p.ensures.good.sound
 
 pub step-s-requires : goal.step-s-requires
 step-s-requires c = fit_sound _ _ c.quiet-p.ensures.good.sound
 
-pub overflow_add-at : goal.overflow_add-at
-overflow_add-at c = omega (arith, c.well_formed.1.1.0, c.if-samples-at.false)
-
 pub returns-then-happened : goal.returns-then-happened
 returns-then-happened c =
     scan_event _ (scan_quiet _ c.loop-at.invariant.1
     c.quiet-p.ensures)
     _ _ c.if-samples-at.false c.step-s.ensures c.event-event.ensures
-
-pub loop-at-smaller : goal.loop-at-smaller
-loop-at-smaller c =
-    omega (arith, c.quiet-p.ensures.ahead, c.if-samples-at.false)
 
 pub loop-at-preserved : goal.loop-at-preserved
 loop-at-preserved c =

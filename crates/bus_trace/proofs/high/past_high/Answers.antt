@@ -13,12 +13,6 @@ lows_are w v h e eh some z = some (eh ∙ ap (λ (x : ℕ). highs_in 8 (18446744
 pub loop-at-init : goal.loop-at-init
 loop-at-init c = resting_begun _ _ c.requires.1
 
-pub overflow_sub-samples : goal.overflow_sub-samples
-overflow_sub-samples c = c.loop-at.invariant.high.within
-
-pub word_at-word-requires : goal.word_at-word-requires
-word_at-word-requires c = omega (arith, c.loop-at.invariant.high.within)
-
 pub overflow_add-result : goal.overflow_add-result
 overflow_add-result c =
     let w = c.word_at-word.ensures in
@@ -42,18 +36,6 @@ returns-then-highs-ne0 c =
     (lows_are _ _ _ w c.highs.ensures c.if-highs-ne0.true)
     _ _ (c.lows-stop.ensures ∙ ap (λ (x : ℕ). lows_in 8 (18446744073709551615 - x)) w)
     (c.level_at.ensures ∙ ap (level_in c.lows-stop.result c.loop-at.sclk) w)
-
-pub overflow_add-sclk : goal.overflow_add-sclk
-overflow_add-sclk c = omega (arith, c.loop-at-test.true, c.loop-at.invariant.high.within)
-
-pub bounds-samples-at : goal.bounds-samples-at
-bounds-samples-at c = omega (arith, c.loop-at-test.true, c.loop-at.invariant.high.within)
-
-pub overflow_add-at : goal.overflow_add-at
-overflow_add-at c = omega (arith, c.loop-at-test.true, c.loop-at.invariant.high.within)
-
-pub loop-at-smaller : goal.loop-at-smaller
-loop-at-smaller c = omega (arith, c.loop-at-test.true, c.loop-at.invariant.high.within)
 
 pub loop-at-preserved : goal.loop-at-preserved
 loop-at-preserved c =

@@ -1,12 +1,8 @@
 -- `high` meets its contract: with CSB high only the level of SCLK changes, to that of the last sample.
 use mathlib.Core.Path.{refl}
 use Rattle.bus_trace.proofs.Advance.{own, past_high}
-use Rattle.bus_trace.proofs.Onward.{port_level}
 use Rattle.bus_trace.specs.Scan.{progress}
 use Rattle.bus_trace.proofs.quiet.high.Goals as goal
-
-pub past_high-past-requires : goal.past_high-past-requires
-past_high-past-requires c = (rw c.level_of.ensures (port_level c.args.port.sclk), c.requires.2)
 
 pub returns : goal.returns
 returns c =

@@ -4,40 +4,8 @@ use mathlib.Core.Path.{refl, sym, ◌∙◌}
 use native.Mathlib.Omega.{arith}
 use Rattle.bus_trace.specs.Scan.{progress}
 use Rattle.bus_trace.proofs.Dense.{word_nibble_lt, four_more, three_more}
-use Rattle.bus_trace.proofs.Onward.{Going, going_begun, took_join}
+use Rattle.bus_trace.proofs.Onward.{Going}
 use Rattle.bus_trace.proofs.scan.take.Goals as goal
-
-pub loop-p-init : goal.loop-p-init
-loop-p-init c = going_begun c.requires
-
-pub overflow_sub-samples : goal.overflow_sub-samples
-overflow_sub-samples c = c.loop-p.invariant.standing.within
-
-pub word_at-first-requires : goal.word_at-first-requires
-word_at-first-requires c = omega (arith, c.loop-p-test.true, c.loop-p.invariant.standing.within)
-
-pub overflow_add-at : goal.overflow_add-at
-overflow_add-at c = omega (arith, c.loop-p-test.true, c.loop-p.invariant.standing.within)
-
-pub word_at-second-requires : goal.word_at-second-requires
-word_at-second-requires c = omega (arith, c.loop-p-test.true, c.loop-p.invariant.standing.within)
-
-pub overflow_add-p : goal.overflow_add-p
-overflow_add-p c = let s = c.loop-p.invariant.standing in omega (arith, s.few, s.short)
-
-pub with_four-value-requires : goal.with_four-value-requires
-with_four-value-requires c =
-    let s = c.loop-p.invariant.standing in (
-      s.small,
-      omega (arith, c.if-piece-p.false, s.short),
-      word_nibble_lt _ c.word_at-first.result c.args.piece.line c.four_bits.ensures,
-    )
-
-pub overflow_add-p-in-loop-p : goal.overflow_add-p-in-loop-p
-overflow_add-p-in-loop-p c = let s = c.loop-p.invariant.standing in omega (arith, s.few, s.short)
-
-pub overflow_add-p-then-p-piece : goal.overflow_add-p-then-p-piece
-overflow_add-p-then-p-piece c = let s = c.loop-p.invariant.standing in omega (arith, s.few, s.short)
 
 pub with_three-requires : goal.with_three-requires
 with_three-requires c =
@@ -51,9 +19,6 @@ with_three-requires c =
       word_nibble_lt _ c.word_at-second.result c.args.piece.line c.four_bits-more.ensures,
     )
 
-pub overflow_add-result : goal.overflow_add-result
-overflow_add-result c = omega (arith, c.loop-p-test.true, c.loop-p.invariant.standing.within, c.well_formed)
-
 pub returns-then-p-piece : goal.returns-then-p-piece
 returns-then-p-piece c =
     let half : Going c.args.samples.now c.args.piece.line c.args.piece.lsb_first c.args.piece.last c.args.from (progress 2 (c.loop-p.p.bits + 4) c.with_four-value.result (c.loop-p.p.at + 8)) =
@@ -63,9 +28,6 @@ returns-then-p-piece c =
     three_more (λ k. (c.type_inv.samples k).fits) c.args.piece.wired half (omega (arith, c.loop-p-test.true, c.loop-p.invariant.standing.within))
     c.word_at-second.ensures (sym c.levels-in-loop-p.ensures ∙ c.if-levels-ne-DENSE-2.false) c.four_bits-more.ensures
     (omega (arith, c.if-p-piece.true)) c.with_three.ensures (omega arith)
-
-pub overflow_add-p-in-loop-p-2 : goal.overflow_add-p-in-loop-p-2
-overflow_add-p-in-loop-p-2 c = let s = c.loop-p.invariant.standing in omega (arith, s.few, s.short)
 
 pub with_four-requires : goal.with_four-requires
 with_four-requires c =
@@ -79,15 +41,6 @@ with_four-requires c =
       word_nibble_lt _ c.word_at-second.result c.args.piece.line c.four_bits-more.ensures,
     )
 
-pub overflow_add-p-in-loop-p-3 : goal.overflow_add-p-in-loop-p-3
-overflow_add-p-in-loop-p-3 c = let s = c.loop-p.invariant.standing in omega (arith, s.few, s.short)
-
-pub overflow_add-p-in-loop-p-4 : goal.overflow_add-p-in-loop-p-4
-overflow_add-p-in-loop-p-4 c = omega (arith, c.loop-p-test.true, c.loop-p.invariant.standing.within, c.well_formed)
-
-pub loop-p-smaller : goal.loop-p-smaller
-loop-p-smaller c = omega (arith, c.loop-p-test.true, c.loop-p.invariant.standing.within)
-
 pub loop-p-preserved : goal.loop-p-preserved
 loop-p-preserved c =
     let half : Going c.args.samples.now c.args.piece.line c.args.piece.lsb_first c.args.piece.last c.args.from (progress 2 (c.loop-p.p.bits + 4) c.with_four-value.result (c.loop-p.p.at + 8)) =
@@ -97,9 +50,3 @@ loop-p-preserved c =
     four_more (λ k. (c.type_inv.samples k).fits) c.args.piece.wired half (omega (arith, c.loop-p-test.true, c.loop-p.invariant.standing.within))
     c.word_at-second.ensures (sym c.levels-in-loop-p.ensures ∙ c.if-levels-ne-DENSE-2.false) c.four_bits-more.ensures
     (omega (arith, c.if-piece-p.false, c.if-p-piece.false)) c.with_four.ensures (omega arith) (omega arith)
-
-pub take_words-requires : goal.take_words-requires
-take_words-requires c = c.loop-p.invariant.standing
-
-pub returns : goal.returns
-returns c = took_join c.loop-p.invariant c.take_words.ensures

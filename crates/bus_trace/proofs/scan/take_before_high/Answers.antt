@@ -1,31 +1,11 @@
 -- `take_before_high` meets its contract: the rises before CSB is high, and then no sample more.
 use mathlib.Core.Path.{◌≡◌, ◌∙◌, ap}
-use Prim.Native.Nat.{ℕ}
 use native.Mathlib.Omega.{arith}
-use Rattle.bus_words.specs.Lanes.{highs_in, lows_in, level_in, rises_in}
+use Rattle.bus_words.specs.Lanes.{highs_in, lows_in, level_in}
 use Rattle.bus_words.proofs.Lanes.{lows_le, lows_full}
 use Rattle.bus_trace.proofs.Onward.{going_begun}
-use Rattle.bus_trace.proofs.Lanes.{rise_inside, took_rise, took_before_high}
+use Rattle.bus_trace.proofs.Lanes.{took_rise, took_before_high}
 use Rattle.bus_trace.proofs.scan.take_before_high.Goals as goal
-
-pub rises-requires : goal.rises-requires
-rises-requires c = c.requires.0.level
-
-pub bits_at-b-requires : goal.bits_at-b-requires
-bits_at-b-requires c = (
-  c.requires.0,
-  record { room = c.requires.1; mask = c.rises.ensures ∙ ap (λ (w : ℕ). rises_in (lows_in 8 w) c.args.from.level w) c.requires.2 },
-)
-
-pub overflow_add-result : goal.overflow_add-result
-overflow_add-result c =
-    omega (
-      arith,
-      rise_inside (λ k. (c.type_inv.samples k).fits) (going_begun c.requires.0)
-          c.requires.1 c.bits_at-b.ensures c.if-b-ne0.true _ c.lane.ensures,
-      c.requires.1,
-      c.well_formed,
-    )
 
 pub returns-then-b-ne0 : goal.returns-then-b-ne0
 returns-then-b-ne0 c =

@@ -6,7 +6,7 @@ use native.Mathlib.Omega.{arith}
 use lib.Pow.{shl_exact}
 use Rattle.base_card.specs.Card.{turned}
 use Rattle.bus_trace.specs.Scan.{shifted_four}
-use Rattle.bus_trace.proofs.Dense.{low_four, high_four, turned_lt, above_fits, value_lt}
+use Rattle.bus_trace.proofs.Dense.{low_four, turned_lt, above_fits, value_lt}
 use Rattle.bus_trace.proofs.scan.with_four.Goals as goal
 
 pub overflow_add-result : goal.overflow_add-result
@@ -31,8 +31,3 @@ overflow_mul-result c = omega (arith, value_lt c.args.value c.args.bits c.requir
 
 pub overflow_add-result-2 : goal.overflow_add-result-2
 overflow_add-result-2 c = omega (arith, value_lt c.args.value c.args.bits c.requires.0 c.requires.1, c.requires.2)
-
-pub returns : goal.returns
-returns c =
-    λ w x y z e. ap (λ (k : ℕ). c.args.value * 16 + k) e ∙ high_four c.args.value c.args.bits w x y z
-    ∙ ap (λ (l : Bool). shifted_four l c.args.value c.args.bits w x y z) (sym c.if-lsb_first.false)

@@ -1,12 +1,12 @@
 -- `with_three` meets its contract: as `with_four`, with the first three of the four bits.
-use Prim.Native.Nat.{ℕ, ◌+◌, ◌*◌, ◌/◌, ◌%◌, ◌^◌, ◌<◌}
+use Prim.Native.Nat.{ℕ, ◌+◌, ◌*◌, ◌%◌, ◌^◌, ◌<◌}
 use mathlib.Core.Path.{sym, ◌∙◌, ap}
 use mathlib.Core.Bool.{Bool}
 use native.Mathlib.Omega.{arith}
 use lib.Pow.{shl_exact}
 use Rattle.base_card.specs.Card.{turned}
 use Rattle.bus_trace.specs.Scan.{shifted_three}
-use Rattle.bus_trace.proofs.Dense.{low_three, high_three, turned_lt, above_fits, value_lt}
+use Rattle.bus_trace.proofs.Dense.{low_three, turned_lt, above_fits, value_lt}
 use Rattle.bus_trace.proofs.scan.with_three.Goals as goal
 
 pub overflow_add-result : goal.overflow_add-result
@@ -31,8 +31,3 @@ overflow_mul-result c = omega (arith, value_lt c.args.value c.args.bits c.requir
 
 pub overflow_add-result-2 : goal.overflow_add-result-2
 overflow_add-result-2 c = omega (arith, value_lt c.args.value c.args.bits c.requires.0 c.requires.1, c.requires.2)
-
-pub returns : goal.returns
-returns c =
-    λ w x y z e. ap (λ (k : ℕ). c.args.value * 8 + k / 2) e ∙ high_three c.args.value c.args.bits w x y z
-    ∙ ap (λ (l : Bool). shifted_three l c.args.value c.args.bits w x y) (sym c.if-lsb_first.false)
