@@ -87,12 +87,6 @@ level_is : (b : Bool) → eqb (cond b 2 0) 2 ≡ b
 level_is true = refl
 level_is false = refl
 
--- seven bits before the last: in data, and in no other phase
-pub last_data : (p : Phase) → eqb (last_of p) 7 ≡ is_data p
-last_data Rest = refl
-last_data Instruction = refl
-last_data Data = refl
-
 pub even_level : (x : ℕ) → (x % 4 % 2 ≡ 1 → ⊥) → x % 2 ≡ 0
 even_level x f = omega (arith, f)
 

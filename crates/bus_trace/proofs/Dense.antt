@@ -69,42 +69,6 @@ low_three v n false false true false = omega (arith, powers n)
 low_three v n false false false true = omega (arith, powers n)
 low_three v n false false false false = omega (arith, powers n)
 
-pub high_four : (v n : ℕ) (a b c d : Bool) → v * 16 + nibble a b c d ≡ shifted_four false v n a b c d
-high_four v n true true true true = omega arith
-high_four v n true true true false = omega arith
-high_four v n true true false true = omega arith
-high_four v n true true false false = omega arith
-high_four v n true false true true = omega arith
-high_four v n true false true false = omega arith
-high_four v n true false false true = omega arith
-high_four v n true false false false = omega arith
-high_four v n false true true true = omega arith
-high_four v n false true true false = omega arith
-high_four v n false true false true = omega arith
-high_four v n false true false false = omega arith
-high_four v n false false true true = omega arith
-high_four v n false false true false = omega arith
-high_four v n false false false true = omega arith
-high_four v n false false false false = omega arith
-
-pub high_three : (v n : ℕ) (a b c d : Bool) → v * 8 + nibble a b c d / 2 ≡ shifted_three false v n a b c
-high_three v n true true true true = omega arith
-high_three v n true true true false = omega arith
-high_three v n true true false true = omega arith
-high_three v n true true false false = omega arith
-high_three v n true false true true = omega arith
-high_three v n true false true false = omega arith
-high_three v n true false false true = omega arith
-high_three v n true false false false = omega arith
-high_three v n false true true true = omega arith
-high_three v n false true true false = omega arith
-high_three v n false true false true = omega arith
-high_three v n false true false false = omega arith
-high_three v n false false true true = omega arith
-high_three v n false false true false = omega arith
-high_three v n false false false true = omega arith
-high_three v n false false false false = omega arith
-
 -- four bits turned are four bits
 pub turned_lt : (x : ℕ) → x < 16 → turned 8 (x * 16) < 16
 unfolding turned

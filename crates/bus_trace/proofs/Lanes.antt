@@ -305,11 +305,6 @@ level_word xs bytes (suc k) i l h = level_in_lem xs bytes k 8 i l h
 
 module _ {xs : List ℕ} (bytes : (k : ℕ) → get_or xs k 0 < 256) {line : ℕ} {lsb : Bool} {last : ℕ} {p₀ p : Progress} {b : Bits}
     (g : Going xs line lsb last p₀ p) (room : p.at + 8 ≤ length xs) (f : BitsAfter xs line lsb last p b) where
-  pub rise_inside : (b.rising ≡ 0 → ⊥) → (k : ℕ) → k ≡ count_trailing_zeros 64 b.rising / 8 → k < 8
-  rise_inside some k e =
-      let r = next_rise bytes room f.gathered some in
-      omega (arith, e, r.zeros, r.inside, lows_le 8 (word_of xs p.at 8))
-
   -- it ends at a rise
   pub took_rise : (b.rising ≡ 0 → ⊥) → (k : ℕ) → k ≡ count_trailing_zeros 64 b.rising / 8
       → LowScanAfter xs line lsb last p₀ (progress 0 b.bits b.value (p.at + k))

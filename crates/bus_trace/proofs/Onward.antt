@@ -80,15 +80,6 @@ module _ {xs : List ℕ} {line : ℕ} {lsb : Bool} {last : ℕ} {p q : Progress}
       let b : q.bits < last = omega (arith, n, g.standing.few) in
       record { onward = onward_join g.onward (onward_bit q h e k b); standing = standing_bit lsb (bit_at (get_or xs q.at 0) line) g.standing h e b }
 
-  pub took_all : length xs ≤ q.at → LowScanAfter xs line lsb last p q
-  took_all h = record { onward = g.onward; standing = g.standing; stopped = λ k e. absurd (omega (arith, h, k)) }
-
-  pub took_high : get_or xs q.at 0 % 2 ≡ 1 → LowScanAfter xs line lsb last p q
-  took_high h = record { onward = g.onward; standing = g.standing; stopped = λ k e. absurd (omega (arith, h, e)) }
-
-  pub took_last : q.bits ≡ last → q.level < get_or xs q.at 0 % 4 → LowScanAfter xs line lsb last p q
-  took_last b h = record { onward = g.onward; standing = g.standing; stopped = λ k e. (b, h) }
-
   pub took_join : {r : Progress} → LowScanAfter xs line lsb last q r → LowScanAfter xs line lsb last p r
   took_join t = record { onward = onward_join g.onward t.onward; standing = t.standing; stopped = t.stopped }
 
@@ -126,14 +117,4 @@ scan_high p q up h = record {
   carried = λ v r. rw h.level_is (past_high _ (sym v.csb_is ∙ up) p q.at r h.past.high);
   falls = λ e. h.past.falls;
   stopped = λ e. absurd (true≢false (sym up ∙ e));
-}
-
-pub scan_low : {xs : List ℕ} {csb : Bool} {line : ℕ} {lsb : Bool} {last : ℕ} {p r : Progress} → csb ≡ false → LowScanAfter xs line lsb last p r
-    → ScanAfter xs csb line lsb last p r
-scan_low {csb = csb} down t = record {
-  ahead = t.onward.ahead;
-  within = t.standing.within;
-  carried = λ v. t.onward.carried (record { low = sym v.csb_is ∙ down; line_is = v.line_is; order_is = v.order_is; last_is = v.last_is });
-  falls = λ e. absurd (true≢false (sym e ∙ down));
-  stopped = λ e. t.stopped;
 }

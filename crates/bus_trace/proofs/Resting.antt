@@ -52,12 +52,6 @@ module _ {xs : List ℕ} {l₀ i l j : ℕ} (r : Resting xs l₀ i l j) where
   pub resting_level : Level l₀ → Level l
   resting_level h = rw r.level_is (level_good xs i l₀ (j - i) h)
 
-  pub rested_all : length xs ≤ j → Rested xs l₀ i (past j l)
-  rested_all h = record { past = record { high = r.high; falls = λ k. absurd (omega (arith, h, k)) }; level_is = r.level_is }
-
-  pub rested_low : get_or xs j 0 % 2 ≡ 0 → Rested xs l₀ i (past j l)
-  rested_low e = record { past = record { high = r.high; falls = λ k. e }; level_is = r.level_is }
-
   -- the level is that of a further place, and what is passed from here on is passed in all
   rested_on : (k : ℕ) → level_after xs j l k ≡ level_after xs i l₀ (j + k - i)
   rested_on k =
