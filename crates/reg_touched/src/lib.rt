@@ -43,6 +43,8 @@ pub fn mark(words: &mut [u64]) -> Result<(), Refusal>
     Ok(())
 }
 
+// That the words are few is a clause of this and the two searches. As a struct's ghost field the proof didn't close: of words in a
+// struct nothing says that each fits 64 bits.
 // How many bits are set.
 fn count_ones(words: &[u64]) -> usize
     requires { length words.now ≤ most_words }
