@@ -1,4 +1,4 @@
-// The order of one stretch, put into a buffer. Each function here gives the place after what it puts.
+// The order of one stretch, put into a buffer. Each function here gives the place after what it puts, as those of `send_samples` do.
 ghost use Rattle.std.specs.Prelude.{◌≡◌, cond, [], ◌∷◌, ◌++◌, ◌+◌, ◌-◌, ◌<◌, ◌≤◌, length, get_or};
 ghost use Rattle.base_bits.specs.Bytes.{word_bytes};
 ghost use Rattle.base_bits.specs.Buffer.{Put};

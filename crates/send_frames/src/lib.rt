@@ -33,8 +33,8 @@ fn stretch_end(addresses: &[u16], from: usize) -> usize
     addresses.len()
 }
 
-// How many bytes the orders take: those before the data, and the data, of each. No range counts the turns of this walk and of the one below:
-// each stretch tells where the next one begins.
+// How many bytes the orders take: those before the data, and the data, of each. No range counts the turns of this walk and of the one
+// below: each stretch tells where the next one begins.
 fn frames_size(addresses: &[u16], bytes: &[u8]) -> usize
     requires { every (registers_tests addresses.now bytes.now) ≡ true }
     ensures { result ≡ stretches_size (stretches_of (wanted_of addresses.now bytes.now)) }

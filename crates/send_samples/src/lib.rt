@@ -28,7 +28,7 @@ struct RunSettings {
     single_instruction: bool,
 }
 
-// The run of an order, by its direction and its settings number.
+// The run of an order, by its direction and its settings number. It is no `From`, which could not require a number that fits.
 fn run_of(order: Order) -> RunSettings
     requires { order.settings ≤ 7 }
     ensures { result ≡ order_run Newer (with_data order []) }
@@ -42,7 +42,8 @@ fn run_of(order: Order) -> RunSettings
     }
 }
 
-// Puts the samples of an order to a newer chip at the start of the outgoing buffer, and tells how many they are. A refusal leaves the buffer as it was.
+// Puts the samples of an order, as C gives it, to a newer chip at the start of the outgoing buffer, and tells how many they are. A refusal
+// leaves the buffer as it was.
 pub fn send(
     direction: u64,
     settings: u64,

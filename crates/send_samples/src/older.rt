@@ -42,8 +42,8 @@ fn put_older(order: Order, data: &[u8], out: &mut [u8]) -> usize
     put_all(&Card::new(), on_newer, lower, data, out)
 }
 
-// Puts the samples of an order to an older chip at the start of the outgoing buffer, and tells how many they are. A refusal leaves the buffer as it was. The caller
-// names the chip's highest address, and no part: what is sent does not depend on it.
+// Puts the samples of an order to an older chip at the start of the outgoing buffer, and tells how many they are. A refusal leaves the
+// buffer as it was. The caller names the chip's highest address, and no part: what is sent does not depend on it.
 pub fn send_older(
     top: u64,
     direction: u64,

@@ -1,4 +1,6 @@
 // The samples of a run, put into a buffer. Each function here gives the place after what it puts. Where bits are sent the card is lent.
+// No struct holds the buffer with the place: `Put w.old.out w.old.at xs w.new.at w.new.out` is no plainer than
+// `Put out.old at xs result out.new`.
 ghost use Rattle.std.specs.Prelude.{◌≡◌, cond, false, [], ◌+◌, ◌<◌, ◌≤◌, length};
 ghost use Rattle.base_bits.specs.Buffer.{Put};
 ghost use Rattle.base_chip.specs.declared.Chip.TheVariants.{Newer};

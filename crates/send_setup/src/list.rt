@@ -52,7 +52,8 @@ pub fn end_at(list: &[u8], at: usize, left: u8) -> Option<usize>
     None
 }
 
-// The place after the order that stands at a place.
+// The place after the order that stands at a place. No struct with an invariant holds the list and the place at which an order stands
+// whole: a clause would say `order.entry.list.now` and `order.entry.at` for `list.now` and `at`, and a walk would make one at each place.
 pub fn after(list: &[u8], at: usize) -> usize
     requires { every (whole_tests (drop at list.now)) ≡ true }
     ensures { result ≡ at + 2 + word_at list.now at }
