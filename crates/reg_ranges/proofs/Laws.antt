@@ -51,7 +51,7 @@ sets_self (suc n) l a h =
     ∙ sets_self n l (suc a) (omega arith)
 
 -- what is put leaves what stands below it and above it
-put_back : (ys l : List ℕ) (a : ℕ) → a + length ys ≤ length l → take a l ++ (ys ++ drop (length ys) (drop a l)) ≡ sets l a ys
+pub put_back : (ys l : List ℕ) (a : ℕ) → a + length ys ≤ length l → take a l ++ (ys ++ drop (length ys) (drop a l)) ≡ sets l a ys
 put_back ys l a h =
     ap (λ (k : List ℕ). take a l ++ (ys ++ k)) (drop-drop (length ys) a l)
     ∙ sym (append_assoc (take a l) ys (drop (a + length ys) l))

@@ -1,2 +1,2 @@
 pub mod Laws
-pub mod Moving
+pub mod Cut

@@ -15,11 +15,11 @@ returns c =
     let at = c.args in
     let m = at.map.now in
     let all = defaults_from m 0 (count_of m) in
-    let size : length all ≡ at.n = (mapped_defaults m).active_size ∙ sym c.requires.count in
+    let size : length all ≡ at.ranges.n = (mapped_defaults m).active_size ∙ sym c.requires.count in
     rw (
       c.put_defaults.ensures,
       c.put_defaults-2.ensures,
-      lent_back all at.memory.now at.n at.active size c.requires.active_fits,
+      lent_back all at.memory.now at.ranges.n at.ranges.active size c.requires.active_fits,
     )
-    (lent_back all (sets at.memory.now at.active all) at.n at.buffer size
-    (omega (arith, length-sets at.memory.now at.active all, c.requires.buffer_fits)))
+    (lent_back all (sets at.memory.now at.ranges.active all) at.ranges.n at.ranges.buffer size
+    (omega (arith, length-sets at.memory.now at.ranges.active all, c.requires.buffer_fits)))

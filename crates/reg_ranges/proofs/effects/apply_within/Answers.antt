@@ -6,15 +6,15 @@ use Rattle.reg_write.specs.Write.{applied}
 use Rattle.reg_ranges.proofs.Laws.{placed_same, placed_active_byte, placed_buffer_byte}
 use Rattle.reg_ranges.proofs.effects.apply_within.Goals as goal
 
-pub bounds-memory-buffer : goal.bounds-memory-buffer
-bounds-memory-buffer c =
-    let below : c.in-Byte.address < c.args.n =
+pub bounds-memory-ranges : goal.bounds-memory-ranges
+bounds-memory-ranges c =
+    let below : c.in-Byte.address < c.args.ranges.n =
     c.requires.1 _ _ _ _ c.in-Byte.is in
     omega (arith, below, c.requires.0.buffer_fits)
 
-pub bounds-memory-active : goal.bounds-memory-active
-bounds-memory-active c =
-    let below : c.in-Byte.address < c.args.n =
+pub bounds-memory-ranges-else-buffered : goal.bounds-memory-ranges-else-buffered
+bounds-memory-ranges-else-buffered c =
+    let below : c.in-Byte.address < c.args.ranges.n =
     c.requires.1 _ _ _ _ c.in-Byte.is in
     omega (arith, below, c.requires.0.active_fits)
 
@@ -25,7 +25,7 @@ returns-in-Nothing c = rw c.in-Nothing.is (sym (placed_same c.requires.0))
 pub returns-then-buffered : goal.returns-then-buffered
 unfolding applied
 returns-then-buffered c =
-    let below : c.in-Byte.address < c.args.n =
+    let below : c.in-Byte.address < c.args.ranges.n =
     c.requires.1 _ _ _ _ c.in-Byte.is in
     rw (c.in-Byte.is, c.if-buffered.true)
     (sym (placed_buffer_byte c.requires.0 _ _ below))
@@ -33,7 +33,7 @@ returns-then-buffered c =
 pub returns-else-buffered : goal.returns-else-buffered
 unfolding applied
 returns-else-buffered c =
-    let below : c.in-Byte.address < c.args.n =
+    let below : c.in-Byte.address < c.args.ranges.n =
     c.requires.1 _ _ _ _ c.in-Byte.is in
     rw (c.in-Byte.is, c.if-buffered.false)
     (sym (placed_active_byte c.requires.0 _ _ below))

@@ -10,4 +10,4 @@ pub returns : goal.returns
 returns c =
     let at = c.args in
     c.effect_at.ensures
-    ∙ ap (λ (k : Banks). effect_at Newer at.map.now k at.address at.v) (lent_banks at.memory.now at.n at.active at.buffer)
+    ∙ ap (λ (k : Banks). effect_at Newer at.map.now k at.address at.v) (lent_banks at.memory.now at.ranges.n at.ranges.active at.ranges.buffer)

@@ -10,4 +10,4 @@ pub returns : goal.returns
 returns c =
     let at = c.args in
     c.due_byte.ensures
-    ∙ ap (λ (k : Banks). due_byte Newer at.map.now k at.settings at.address) (lent_banks at.memory.now at.n at.active at.buffer)
+    ∙ ap (λ (k : Banks). due_byte Newer at.map.now k at.settings at.address) (lent_banks at.memory.now at.ranges.n at.ranges.active at.ranges.buffer)
