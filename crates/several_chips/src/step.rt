@@ -12,6 +12,7 @@ use base_bits::bit_at;
 use base_chip::Chip;
 use bus_session::{CSB, Port, SCLK, Session, is_data, takes_bit};
 use bus_session_bytes::{bytes_of, session_of};
+use reg_ranges::Ranges;
 
 // What a chip sees of a sample, as if it were alone: the lines, and its own select as CSB.
 pub fn sees(selects: u8, lines: u8, chip: u8) -> u8
@@ -54,13 +55,14 @@ fn with_clock(mut member: Member, sclk: bool) -> Member
 }
 
 // The chip with another session and mark.
-fn with_session(mut member: Member, session: Session, contended: bool) -> Member
+fn with_session(member: Member, session: Session, contended: bool) -> Member
     ensures { result ≡ member_with member (state session contended) }
 {
-    let bytes = bytes_of(session);
-    member.session = bytes;
-    member.contended = contended as u8;
-    member
+    Member {
+        session: bytes_of(session),
+        contended: contended as u8,
+        ..member
+    }
 }
 
 // The turn after one: that of the next chip, or at the next sample that of the first.
@@ -70,16 +72,12 @@ fn next_turn(turn: Turn, chips: usize, at: usize) -> Turn
 {
     let chip = turn.chip + 1;
     if chip < chips {
-        return Turn {
-            sample: turn.sample,
-            chip: chip,
-            at: at,
-        };
+        return Turn { chip, at, ..turn };
     }
     Turn {
         sample: turn.sample + 1,
         chip: 0,
-        at: at,
+        at,
     }
 }
 
@@ -114,12 +112,15 @@ fn move_member(
     let contended = (member.contended == 1) | (edge & other_low(selects, lines, chip));
     let event = port.event(Chip::Newer, seen);
     let after = port.step(Chip::Newer, seen);
+    let ranges = Ranges {
+        n: member.active_length,
+        active: member.active_start,
+        buffer: member.buffer_start,
+    };
     let took = take_within(
         map,
         memory,
-        member.active_length,
-        member.active_start,
-        member.buffer_start,
+        ranges,
         settings,
         session.armed,
         event,
@@ -163,10 +164,11 @@ pub fn step_member(
             turn: next_turn(turn, chips, turn.at),
         };
     }
-    let moved = move_member(map, member, memory, selects, lines, chip, records, turn.at);
-    let after = moved.member;
+    let Moved { member, at } = move_member(
+        map, member, memory, selects, lines, chip, records, turn.at,
+    );
     Stepped {
-        member: after,
-        turn: next_turn(turn, chips, moved.at),
+        member,
+        turn: next_turn(turn, chips, at),
     }
 }

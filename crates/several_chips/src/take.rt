@@ -11,38 +11,31 @@ use base_chip::Chip;
 use bus_session::Event;
 use bus_settings::Settings;
 use read_records::EventOutcome;
-use reg_ranges::{due_within, end_within, write_within};
+use reg_ranges::{Ranges, due_within, end_within, write_within};
 use reg_write::{armed_on, moves_at_rise};
 
 // The end of a frame: what the rise moves, and a session that is not armed. The next place is the given one.
 fn take_end_within(
     map: &[u8],
     memory: &mut [u8],
-    n: usize,
-    active: usize,
-    buffer: usize,
+    ranges: Ranges,
     armed: bool,
     at: usize,
 ) -> EventOutcome
-    requires { RangesWithin map.now memory.old n active buffer }
+    requires { RangesWithin map.now memory.old ranges.n ranges.active ranges.buffer }
     ensures { (memory.new
-        ≡ placed memory.old active buffer (rise_banks Newer map.now armed (banks_in memory.old n active buffer)))
+        ≡ placed memory.old ranges.active ranges.buffer (rise_banks Newer map.now armed (banks_in memory.old ranges.n ranges.active ranges.buffer)))
         × (result ≡ record { at = at; armed = false }) }
 {
-    end_within(map, memory, n, active, buffer, armed);
-    EventOutcome {
-        at: at,
-        armed: false,
-    }
+    end_within(map, memory, ranges, armed);
+    EventOutcome { at, armed: false }
 }
 
 // Does what an event does to the two ranges of a chip, and puts its record at a place.
 pub(crate) fn take_within(
     map: &[u8],
     memory: &mut [u8],
-    n: usize,
-    active: usize,
-    buffer: usize,
+    ranges: Ranges,
     settings: Settings,
     armed: bool,
     event: Event,
@@ -51,35 +44,32 @@ pub(crate) fn take_within(
     records: &mut [u8],
     at: usize,
 ) -> EventOutcome
-    requires { TakingWithin map.now memory.old n active buffer settings event chip contended records.old at }
-    ensures { TakenWithin map.now memory.old n active buffer settings armed event chip contended records.old at
+    requires { TakingWithin map.now memory.old ranges.n ranges.active ranges.buffer settings event chip contended records.old at }
+    ensures { TakenWithin map.now memory.old ranges.n ranges.active ranges.buffer settings armed event chip contended records.old at
         memory.new records.new result }
 {
     match event {
-        Event::Nothing => EventOutcome {
-            at: at,
-            armed: armed,
-        },
+        Event::Nothing => EventOutcome { at, armed },
         Event::Whole {
             read,
             address,
             byte,
         } => {
             if read {
-                let due = due_within(map, memory, n, active, buffer, settings, address);
+                let due = due_within(map, memory, ranges, settings, address);
                 put_read(records, at, chip, contended, address, due, byte);
                 return EventOutcome {
                     at: at + RECORD,
-                    armed: armed,
+                    armed,
                 };
             }
-            let written = write_within(map, memory, n, active, buffer, settings, address, byte);
+            let written = write_within(map, memory, ranges, settings, address, byte);
             put_write(records, at, chip, address, byte, written);
             let moves = moves_at_rise(Chip::Newer, map);
             let armed = armed_on(moves, armed, written.effect);
             EventOutcome {
                 at: at + RECORD,
-                armed: armed,
+                armed,
             }
         }
         Event::Aborted {
@@ -88,8 +78,8 @@ pub(crate) fn take_within(
             data,
         } => {
             put_abort(records, at, chip, address, bits, data);
-            take_end_within(map, memory, n, active, buffer, armed, at + RECORD)
+            take_end_within(map, memory, ranges, armed, at + RECORD)
         }
-        Event::Ended => take_end_within(map, memory, n, active, buffer, armed, at),
+        Event::Ended => take_end_within(map, memory, ranges, armed, at),
     }
 }

@@ -17,4 +17,4 @@ next_turn-requires-2 c =
 pub returns : goal.returns
 returns c =
     stepped_moved c.requires
-    _ c.move_member-moved.ensures c.next_turn-2.ensures
+    _ c.move_member-at.ensures c.next_turn-2.ensures
