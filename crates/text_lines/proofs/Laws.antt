@@ -1,4 +1,4 @@
--- Tables against their rules, and how long a line is.
+-- How long a line is.
 use mathlib.Core.Path.{◌≡◌, refl}
 use mathlib.Core.List.{List}
 use Prim.Native.Nat.{ℕ}

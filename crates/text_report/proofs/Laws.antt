@@ -5,19 +5,22 @@ use Prim.Native.Nat.{ℕ, zero, suc, ◌+◌, ◌-◌, ◌*◌, ◌/◌, ◌%◌
 use native.Mathlib.Omega.{arith}
 use native.Mathlib.Numerals.{unary_clauses, sub-one}
 use native.Mathlib.Nat.{pow-suc, one-le-pow, pow-le-pow_right, lt_of_not-le}
-use lib.ListN.{length, drop, set, length-append}
-use lib.Seq.{sets, length-sets, length-take-le, drop-drop}
+use lib.ListN.{length, take, drop, length-append}
+use lib.Seq.{sets, sets-eq, length-sets, length-take-le, drop-drop}
 use lib.Dec.{eqb}
 use borrow.Author.Tests.{eq-eqb, ne_eqb, lt-ltb}
 use Rattle.io.specs.Digits.{last_digits, hex_digit_ascii, IsDigitCount}
+use borrow.Rule.Slice.PartMut.{put_mid}
+use Rattle.std.proofs.lemmas.Slice.{put_mid-paste}
+use Rattle.std.proofs.lemmas.List.Edits.{paste_all}
 use Rattle.base_bits.proofs.Buffer.{sets_append, sets_filled}
 use Rattle.base_bits.proofs.Cases.{each}
 use Rattle.base_sizes.specs.Sizes.{record_size}
-use Rattle.text_lines.specs.Text.{bytes_of, digit_of}
+use Rattle.text_lines.specs.Text.{digit_of}
 use Rattle.text_lines.specs.Line.{line_size, line_of}
 use Rattle.text_lines.proofs.Laws.{line_length}
 use Rattle.text_report.specs.Numbers.{decimal_in, decimal_of}
-use Rattle.text_report.specs.Text.{lines_of, count_line, older_count_line}
+use Rattle.text_report.specs.Text.{lines_of}
 use Rattle.text_report.specs.Put.{Placed, Printed, LinesPut}
 
 -- one text after another
@@ -28,38 +31,19 @@ placed_next {a} {b} {at} {old} p q = record {
   buffer = q.buffer ∙ rw (p.place, p.buffer) (sym (sets_append a b old at));
 }
 
--- one byte at a place
-pub placed_byte : (b at : ℕ) (old : List ℕ) → Placed (b ∷ []) at old (set old at b) (at + 1)
-placed_byte b at old = record { place = refl; buffer = refl }
+-- a word and its number after a text
+pub placed_more : (b d : List ℕ) {a : List ℕ} {at : ℕ} {old mid new : List ℕ} {i j : ℕ}
+    → Placed a at old mid i → Placed (b ++ d) i mid new j → Placed (a ++ b ++ d) at old new j
+placed_more b d {a} {at} {old} {mid} {new} {i} {j} p q =
+    subst (λ (l : List ℕ). Placed l at old new j) (sym (append_assoc a b d)) (placed_next p q)
 
-three_numbers : (a l b c m d e n f : List ℕ) → (a ++ l ++ b) ++ ((c ++ m ++ d) ++ (e ++ n ++ f)) ≡ a ++ l ++ (b ++ c) ++ m ++ (d ++ e) ++ n ++ f
-three_numbers a l b c m d e n f = simp append_assoc
-
--- three words, each with its number, are the last line
-pub placed_counts : (records samples slow : ℕ) {at : ℕ} {old mid later new : List ℕ} {i j k : ℕ}
-    → Placed (bytes_of "records " ++ decimal_of records ++ bytes_of " ") at old mid i
-    → Placed (bytes_of "samples " ++ decimal_of samples ++ bytes_of " ") i mid later j
-    → Placed (bytes_of "slow " ++ decimal_of slow ++ bytes_of "\n") j later new k
-    → Placed (count_line records samples slow) at old new k
-unfolding count_line
-placed_counts records samples slow {at} {old} {mid} {later} {new} {i} {j} {k} p q r =
-    let text =
-    three_numbers (bytes_of "records ") (decimal_of records) (bytes_of " ") (bytes_of "samples ") (decimal_of samples) (bytes_of " ") (bytes_of "slow ")
-    (decimal_of slow) (bytes_of "\n") in
-    subst (λ (l : List ℕ). Placed l at old new k) text (placed_next p (placed_next q r))
-
-two_numbers : (a l b c m d : List ℕ) → (a ++ l ++ b) ++ (c ++ m ++ d) ≡ a ++ l ++ (b ++ c) ++ m ++ d
-two_numbers a l b c m d = simp append_assoc
-
--- two of them are that of an older part
-pub placed_older_counts : (records samples : ℕ) {at : ℕ} {old mid new : List ℕ} {i j : ℕ}
-    → Placed (bytes_of "records " ++ decimal_of records ++ bytes_of " ") at old mid i
-    → Placed (bytes_of "samples " ++ decimal_of samples ++ bytes_of "\n") i mid new j
-    → Placed (older_count_line records samples) at old new j
-unfolding older_count_line
-placed_older_counts records samples {at} {old} {mid} {new} {i} {j} p q =
-    let text = two_numbers (bytes_of "records ") (decimal_of records) (bytes_of " ") (bytes_of "samples ") (decimal_of samples) (bytes_of "\n") in
-    subst (λ (l : List ℕ). Placed l at old new j) text (placed_next p q)
+-- a part of a buffer that bytes were copied into
+pub placed_part : (bytes old part : List ℕ) (at k : ℕ) → part ≡ bytes → length bytes ≡ k → at + length bytes ≤ length old → put_mid at k old part ≡ sets old at bytes
+placed_part bytes old part at k same long fits =
+    put_mid-paste at k old part bytes (length bytes) same long refl
+    ∙ paste_all old at bytes (length bytes) refl
+    ∙ sym (append_assoc (take at old) bytes (drop (at + length bytes) old))
+    ∙ sym (sets-eq bytes old at fits)
 
 -- a text at the start of a buffer
 pub placed_printed : {line old new : List ℕ} {n : ℕ} → n ≤ length old → Placed line 0 old new n → Printed line old new n
@@ -72,6 +56,11 @@ placed_printed {line} {old} {new} {n} h p = record {
     fits : n ≤ length new
     fits = omega (arith, h, ap length p.buffer ∙ length-sets old 0 line)
 
+-- a text from the start of a buffer on, and the bytes that end it
+pub line_ended : {text end : List ℕ} {old mid new : List ℕ} {i n : ℕ}
+    → n ≤ length old → Placed text 0 old mid i → Placed end i mid new n → Printed (text ++ end) old new n
+line_ended h p q = placed_printed h (placed_next p q)
+
 lines_length : (n : ℕ) (records : List ℕ) → length (lines_of n records) ≡ n * line_size
 unfolding lines_of
 lines_length zero records = refl
@@ -79,12 +68,11 @@ lines_length (suc n) records = simp length-append (omega (arith, line_length rec
 
 -- n of `all` lines are put: those of the records that are left, from there on, would make the buffer what it is to be
 pub record Listing (records old new : List ℕ) (all n : ℕ) : Type 0 where
-  pub within : n ≤ all
   pub same : length new ≡ length old
   pub rest : sets new (n * line_size) (lines_of (all - n) (drop (n * record_size) records)) ≡ sets old 0 (lines_of all records)
 
 pub listing_begun : (records old : List ℕ) (all : ℕ) → Listing records old old all 0
-listing_begun records old all = record { within = omega arith; same = refl; rest = rw (ap (λ (k : ℕ). lines_of k records) e) }
+listing_begun records old all = record { same = refl; rest = rw (ap (λ (k : ℕ). lines_of k records) e) }
   where
     e : all - 0 ≡ all
     e = omega arith
@@ -93,7 +81,6 @@ module _ {records old new : List ℕ} {all n : ℕ} (k : Listing records old new
   pub turned : n < all → Listing records old (sets new (n * line_size) (line_of (drop (n * record_size) records))) all (n + 1)
   unfolding lines_of
   turned h = record {
-    within = omega arith;
     same = length-sets new (n * line_size) (line_of (drop (n * record_size) records)) ∙ k.same;
     rest =
         ap (λ (i : ℕ). sets (sets new (n * line_size) first) i (lines_of (all - (n + 1)) (drop ((n + 1) * record_size) records))) place
@@ -139,9 +126,11 @@ decimal_length (suc k) n =
     simp length-append
     (each (λ (l : List ℕ). length l + 1 ≤ suc k) (eqb (n / 10) 0) (λ e. omega arith) (λ e. omega (arith, decimal_length k (n / 10))))
 
--- a number with the byte that ends it
-pub number_length : (n end : ℕ) → length (decimal_of n ++ (end ∷ [])) ≤ 21
-number_length n end = simp length-append (omega (arith, decimal_length 20 n))
+-- how far a word and its number reach, and that the buffer is as long as before
+pub number_put : (word : List ℕ) (n : ℕ) {at : ℕ} {old new : List ℕ} {next : ℕ}
+    → Placed (word ++ decimal_of n) at old new next → (next ≤ at + length word + 20) × (length new ≡ length old)
+number_put word n {at} {old} p =
+    (omega (arith, p.place, length-append word (decimal_of n), decimal_length 20 n), ap length p.buffer ∙ length-sets old at (word ++ decimal_of n))
 
 glyph_digit : (n : ℕ) → hex_digit_ascii (n % 10) ≡ digit_of (n % 10)
 glyph_digit n = rw (lt-ltb (n % 10) 10 (omega arith))

@@ -1,5 +1,5 @@
 -- Document 01, "The bench program": what the program prints, line by line.
-use Rattle.std.specs.Prelude.{ℕ, zero, suc, List, [], ◌++◌, drop}
+use Rattle.std.specs.Prelude.{ℕ, zero, suc, List, [], ◌++◌, drop, Option, Some, None}
 use Rattle.base_sizes.specs.Sizes.{record_size}
 use Rattle.text_lines.specs.Text.{bytes_of}
 use Rattle.text_lines.specs.Line.{line_of}
@@ -26,3 +26,8 @@ older_count_line records samples = bytes_of "records " ++ decimal_of records ++ 
 -- a refusal, with its number
 unfoldable pub refused_line : ℕ → List ℕ
 refused_line number = bytes_of "refused " ++ decimal_of number ++ bytes_of "\n"
+
+-- the last line of either: that of a newer chip has the number of writes that ask for slow
+abbrev pub counts_line : ℕ → ℕ → Option ℕ → List ℕ
+counts_line records samples (Some slow) = count_line records samples slow
+counts_line records samples None = older_count_line records samples

@@ -1,92 +1,103 @@
 // The text that the bench program prints.
 #![tactic(auto)]
 
-ghost use Rattle.std.specs.Prelude.{◌≡◌, ◌∷◌, [], ◌++◌, ◌+◌, ◌≤◌, min, length};
-ghost use Rattle.text_lines.specs.Pairs.{Paired};
+ghost use Rattle.std.specs.Prelude.{◌≡◌, ◌++◌, ◌+◌, ◌≤◌, length};
+ghost use Rattle.text_lines.specs.Text.{bytes_of};
 ghost use Rattle.text_report.specs.Numbers.{decimal_of};
-ghost use Rattle.text_report.specs.Text.{map_line, count_line, older_count_line, refused_line};
+ghost use Rattle.text_report.specs.Text.{map_line, counts_line, refused_line};
 ghost use Rattle.text_report.specs.Put.{Placed, Printed, LinesPut};
 
 use base_sizes::RECORD;
-use text_lines::{LINE, PAIRS, line_of};
+use std::cmp::min;
+use text_lines::{LINE, Pairs};
 
-// The bytes of the last line at most: three words, each with its number of up to 20 digits and a byte to end it.
+// The bytes of the last line at most: three words, each with its number of up to 20 digits, and a byte to end it.
 pub const LAST_LINE: usize = 84;
 
-// The lines of as many records as there are and as fit; how many that is. The table is that of `text_lines::fill_pairs`.
-pub fn put_lines(pairs: &[u16; PAIRS], records: &[u8], out: &mut [u8]) -> usize
-    requires { Paired pairs.now }
+// The lines of as many records as there are and as fit; how many that is.
+pub fn put_lines(pairs: &Pairs, records: &[u8], out: &mut [u8]) -> usize
     ensures { LinesPut records.now out.old out.new result }
 {
-    let lines = least(records.len() / RECORD, out.len() / LINE);
-    let mut n = 0;
-    while n < lines {
-        put(&line_of(pairs, &records[n * RECORD..]), out, n * LINE);
-        n += 1;
+    let lines = min(records.len() / RECORD, out.len() / LINE);
+    for n in 0..lines {
+        let line = pairs.line_of(&records[n * RECORD..]);
+        out[n * LINE..(n + 1) * LINE].copy_from_slice(&line);
     }
     lines
 }
 
-// The smaller of two numbers.
-fn least(a: usize, b: usize) -> usize
-    ensures { result ≡ min a b }
-{
-    if a < b { a } else { b }
+// Text that is put into a lent buffer, and the place after it.
+#[derive(Drop)]
+struct Text<'a> {
+    out: &'a mut [u8],
+    at: usize,
 }
 
-// Bytes put at a place; the place after them.
-fn put(bytes: &[u8], out: &mut [u8], at: usize) -> usize
-    requires { at + length bytes.now ≤ length out.old }
-    ensures { Placed bytes.now at out.old out.new result }
-{
-    let mut i = 0;
-    while i < bytes.len() {
-        out[at + i] = bytes[i];
-        i += 1;
+impl<'a> Text<'a> {
+    // Puts more bytes.
+    fn put(&mut self, bytes: &[u8])
+        requires { self.old.at + length bytes.now ≤ length self.old.out.now }
+        ensures same { self.new.out.ghost_name ≡ self.old.out.ghost_name }
+        ensures placed { Placed bytes.now self.old.at self.old.out.now self.new.out.now self.new.at }
+    {
+        let end = self.at + bytes.len();
+        self.out[self.at..end].copy_from_slice(bytes);
+        self.at = end;
     }
-    at + i
+
+    // Puts a word, and after it a number in decimal.
+    fn put_number(&mut self, word: &[u8], n: u64)
+        requires { self.old.at + length word.now + 20 ≤ length self.old.out.now }
+        ensures same { self.new.out.ghost_name ≡ self.old.out.ghost_name }
+        ensures placed { Placed (word.now ++ decimal_of n) self.old.at self.old.out.now self.new.out.now self.new.at }
+    {
+        let mut digits = [0u8; 20];
+        let k = io::decimal(n, &mut digits);
+        self.put(word);
+        self.put(&digits[..k]);
+    }
 }
 
-// A word, a number in decimal and a byte to end it, put at a place; the place after them.
-fn put_number(word: &[u8], n: u64, end: u8, out: &mut [u8], at: usize) -> usize
-    requires { at + length word.now + 21 ≤ length out.old }
-    ensures { Placed (word.now ++ decimal_of n ++ (end ∷ [])) at out.old out.new result }
+// A line of a word and a number; how many bytes it is.
+fn put_line(word: &[u8], n: u64, out: &mut [u8; 64]) -> usize
+    requires { length word.now ≤ 43 }
+    ensures { Printed (word.now ++ decimal_of n ++ bytes_of "\n") out.old out.new result }
 {
-    let mut digits = [0u8; 20];
-    let k = io::decimal(n, &mut digits);
-    let at = put(word, out, at);
-    let at = put(&digits[..k], out, at);
-    out[at] = end;
-    at + 1
+    let mut text = Text { out, at: 0 };
+    text.put_number(word, n);
+    text.put(b"\n");
+    text.at
 }
 
 // The first line, with the number of registers; how many bytes it is.
 pub fn put_map_line(n: u64, out: &mut [u8; 64]) -> usize
     ensures { Printed (map_line n) out.old out.new result }
 {
-    put_number(b"map ", n, b'\n', out, 0)
-}
-
-// The last line, with the numbers of records, of samples and of writes that ask for slow; how many bytes it is.
-pub fn put_count_line(records: u64, samples: u64, slow: u64, out: &mut [u8; LAST_LINE]) -> usize
-    ensures { Printed (count_line records samples slow) out.old out.new result }
-{
-    let at = put_number(b"records ", records, b' ', out, 0);
-    let at = put_number(b"samples ", samples, b' ', out, at);
-    put_number(b"slow ", slow, b'\n', out, at)
-}
-
-// The last line of an older part, with the numbers of records and of samples; how many bytes it is.
-pub fn put_older_count_line(records: u64, samples: u64, out: &mut [u8; LAST_LINE]) -> usize
-    ensures { Printed (older_count_line records samples) out.old out.new result }
-{
-    let at = put_number(b"records ", records, b' ', out, 0);
-    put_number(b"samples ", samples, b'\n', out, at)
+    put_line(b"map ", n, out)
 }
 
 // The line of a refusal, with its number; how many bytes it is.
 pub fn put_refused_line(number: u8, out: &mut [u8; 64]) -> usize
     ensures { Printed (refused_line number) out.old out.new result }
 {
-    put_number(b"refused ", number as u64, b'\n', out, 0)
+    put_line(b"refused ", u64::from(number), out)
+}
+
+// The last line, with the numbers of records, of samples and, but for an older part, of writes that ask for slow; how many bytes it is.
+pub fn put_count_line(
+    records: u64,
+    samples: u64,
+    slow: Option<u64>,
+    out: &mut [u8; LAST_LINE],
+) -> usize
+    ensures { Printed (counts_line records samples slow) out.old out.new result }
+{
+    let mut line = Text { out, at: 0 };
+    line.put_number(b"records ", records);
+    line.put_number(b" samples ", samples);
+    if let Some(slow) = slow {
+        line.put_number(b" slow ", slow);
+    }
+    line.put(b"\n");
+    line.at
 }

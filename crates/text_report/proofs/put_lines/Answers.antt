@@ -1,57 +1,32 @@
 -- `put_lines` meets its contract: the lines that are left, put from the present place on, would make the buffer what it is
 -- to be.
-use mathlib.Core.Path.{ap, ◌∙◌}
+use mathlib.Core.Path.{◌≡◌, ap, ◌∙◌}
+use Prim.Native.Nat.{ℕ, ◌+◌, ◌-◌, ◌*◌, ◌/◌, min}
 use native.Mathlib.Omega.{arith}
-use lib.ListN.{length-drop}
+use Rattle.std.specs.Ordering.{ord_min, nat_cmp}
+use Rattle.std.proofs.lemmas.Grind.{common_steps}
+use lib.ListN.{length, drop}
 use Rattle.base_bits.proofs.Buffer.{from_on}
-use Rattle.text_lines.specs.Line.{line_of}
+use Rattle.base_sizes.specs.Sizes.{record_size}
+use Rattle.text_lines.specs.Line.{line_of, line_size}
 use Rattle.text_lines.proofs.Laws.{line_length}
-use Rattle.text_report.proofs.Laws.{listing_begun, turned, ended}
+use Rattle.text_report.proofs.Laws.{placed_part, turned, ended}
 use Rattle.text_report.proofs.put_lines.Goals as goal
 
-pub least-lines-requires : goal.least-lines-requires
-least-lines-requires c = tt
-
-pub loop-n-init : goal.loop-n-init
-loop-n-init c = listing_begun _ _ _
-
-pub overflow_mul-n : goal.overflow_mul-n
-overflow_mul-n c = omega arith
-
-pub slice_bounds-line_of-count : goal.slice_bounds-line_of-count
-slice_bounds-line_of-count c = omega arith
-
-pub slice_bounds-line_of-start : goal.slice_bounds-line_of-start
-slice_bounds-line_of-start c = omega arith
-
-pub slice_bounds-line_of-end : goal.slice_bounds-line_of-end
-slice_bounds-line_of-end c = omega arith
-
-pub line_of-requires : goal.line_of-requires
-line_of-requires c = (c.requires, rw from_on (simp length-drop (omega arith)))
-
-pub slice_bounds-put-end : goal.slice_bounds-put-end
-slice_bounds-put-end c = omega arith
-
-pub overflow_mul-n-in-loop-n : goal.overflow_mul-n-in-loop-n
-overflow_mul-n-in-loop-n c = omega arith
-
-pub put-requires : goal.put-requires
-put-requires c = rw (c.line_of.ensures, line_length) (omega arith)
-
-pub overflow_add-n : goal.overflow_add-n
-overflow_add-n c = omega arith
-
-pub loop-n-smaller : goal.loop-n-smaller
-loop-n-smaller c = omega arith
+-- the standard library's word for the smaller of two numbers
+smaller : (a b : ℕ) → ord_min nat_cmp a b ≡ min a b
+smaller a b = grind (arith, common_steps)
 
 pub loop-n-preserved : goal.loop-n-preserved
 loop-n-preserved c =
-    let line = c.line_of.ensures ∙ ap line_of (from_on c.args.records.now _) in
-    rw (c.put.ensures.buffer, line) (turned c.loop-n.invariant c.loop-n-test.true)
-
-pub shape_of-out : goal.shape_of-out
-shape_of-out c = c.loop-n.invariant.same
+    let l = c.loop-n in
+    let rest = drop (l.n * record_size) c.args.records.now in
+    let line = c.line_of-line.ensures ∙ ap line_of (from_on c.args.records.now _) in
+    let lines = c.min-lines.ensures ∙ smaller (length c.args.records.now / record_size) (length c.args.out.now / line_size) in
+    let part =
+    placed_part (line_of rest) l.out c.copy_from_slice.new.self (l.n * line_size) ((l.n + 1) * line_size - l.n * line_size)
+    (c.copy_from_slice.ensures.after ∙ line) (omega (arith, line_length rest)) (omega (arith, line_length rest, lines, l.invariant.same)) in
+    rw part (turned l.invariant c.loop-n-test.true)
 
 pub returns : goal.returns
-returns c = ended c.loop-n.invariant c.loop-n-test.false c.least-lines.ensures
+returns c = ended c.loop-n.invariant c.loop-n-test.false (c.min-lines.ensures ∙ smaller _ _)
