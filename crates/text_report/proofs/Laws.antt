@@ -14,6 +14,8 @@ use borrow.Rule.Slice.PartMut.{put_mid}
 use Rattle.std.proofs.lemmas.Slice.{put_mid-paste}
 use Rattle.std.proofs.lemmas.List.Edits.{paste_all}
 use Rattle.base_bits.proofs.Buffer.{sets_append, sets_filled}
+use Rattle.base_bits.specs.Buffer.{Put}
+use Rattle.base_bits.proofs.Putting.{put_both}
 use Rattle.base_bits.proofs.Cases.{each}
 use Rattle.base_sizes.specs.Sizes.{record_size}
 use Rattle.text_lines.specs.Text.{digit_of}
@@ -21,35 +23,27 @@ use Rattle.text_lines.specs.Line.{line_size, line_of}
 use Rattle.text_lines.proofs.Laws.{line_length}
 use Rattle.text_report.specs.Numbers.{decimal_in, decimal_of}
 use Rattle.text_report.specs.Text.{lines_of}
-use Rattle.text_report.specs.Put.{Placed, Printed, LinesPut}
-
--- one text after another
-pub placed_next : {a b : List ℕ} {at : ℕ} {old mid new : List ℕ} {i j : ℕ}
-    → Placed a at old mid i → Placed b i mid new j → Placed (a ++ b) at old new j
-placed_next {a} {b} {at} {old} p q = record {
-  place = simp length-append (omega (arith, p.place, q.place));
-  buffer = q.buffer ∙ rw (p.place, p.buffer) (sym (sets_append a b old at));
-}
+use Rattle.text_report.specs.Put.{Printed, LinesPut}
 
 -- a word and its number after a text
-pub placed_more : (b d : List ℕ) {a : List ℕ} {at : ℕ} {old mid new : List ℕ} {i j : ℕ}
-    → Placed a at old mid i → Placed (b ++ d) i mid new j → Placed (a ++ b ++ d) at old new j
-placed_more b d {a} {at} {old} {mid} {new} {i} {j} p q =
-    subst (λ (l : List ℕ). Placed l at old new j) (sym (append_assoc a b d)) (placed_next p q)
+pub put_more : (b d : List ℕ) {a : List ℕ} {at : ℕ} {old mid new : List ℕ} {i j : ℕ}
+    → Put old at a i mid → Put mid i (b ++ d) j new → Put old at (a ++ b ++ d) j new
+put_more b d {a} {at} {old} {mid} {new} {i} {j} p q =
+    subst (λ (l : List ℕ). Put old at l j new) (sym (append_assoc a b d)) (put_both p q)
 
 -- a part of a buffer that bytes were copied into
-pub placed_part : (bytes old part : List ℕ) (at k : ℕ) → part ≡ bytes → length bytes ≡ k → at + length bytes ≤ length old → put_mid at k old part ≡ sets old at bytes
-placed_part bytes old part at k same long fits =
+pub put_part : (bytes old part : List ℕ) (at k : ℕ) → part ≡ bytes → length bytes ≡ k → at + length bytes ≤ length old → put_mid at k old part ≡ sets old at bytes
+put_part bytes old part at k same long fits =
     put_mid-paste at k old part bytes (length bytes) same long refl
     ∙ paste_all old at bytes (length bytes) refl
     ∙ sym (append_assoc (take at old) bytes (drop (at + length bytes) old))
     ∙ sym (sets-eq bytes old at fits)
 
 -- a text at the start of a buffer
-pub placed_printed : {line old new : List ℕ} {n : ℕ} → n ≤ length old → Placed line 0 old new n → Printed line old new n
-placed_printed {line} {old} {new} {n} h p = record {
-  bytes = omega (arith, p.place);
-  buffer = p.buffer ∙ sets_filled line old (omega (arith, p.place));
+pub put_printed : {line old new : List ℕ} {n : ℕ} → n ≤ length old → Put old 0 line n new → Printed line old new n
+put_printed {line} {old} {new} {n} h p = record {
+  bytes = omega (arith, p.next_place);
+  buffer = p.buffer ∙ sets_filled line old (omega (arith, p.next_place));
   within = (fits, sym (length-take-le n new fits));
 }
   where
@@ -58,8 +52,8 @@ placed_printed {line} {old} {new} {n} h p = record {
 
 -- a text from the start of a buffer on, and the bytes that end it
 pub line_ended : {text end : List ℕ} {old mid new : List ℕ} {i n : ℕ}
-    → n ≤ length old → Placed text 0 old mid i → Placed end i mid new n → Printed (text ++ end) old new n
-line_ended h p q = placed_printed h (placed_next p q)
+    → n ≤ length old → Put old 0 text i mid → Put mid i end n new → Printed (text ++ end) old new n
+line_ended h p q = put_printed h (put_both p q)
 
 lines_length : (n : ℕ) (records : List ℕ) → length (lines_of n records) ≡ n * line_size
 unfolding lines_of
@@ -128,9 +122,9 @@ decimal_length (suc k) n =
 
 -- how far a word and its number reach, and that the buffer is as long as before
 pub number_put : (word : List ℕ) (n : ℕ) {at : ℕ} {old new : List ℕ} {next : ℕ}
-    → Placed (word ++ decimal_of n) at old new next → (next ≤ at + length word + 20) × (length new ≡ length old)
+    → Put old at (word ++ decimal_of n) next new → (next ≤ at + length word + 20) × (length new ≡ length old)
 number_put word n {at} {old} p =
-    (omega (arith, p.place, length-append word (decimal_of n), decimal_length 20 n), ap length p.buffer ∙ length-sets old at (word ++ decimal_of n))
+    (omega (arith, p.next_place, length-append word (decimal_of n), decimal_length 20 n), ap length p.buffer ∙ length-sets old at (word ++ decimal_of n))
 
 glyph_digit : (n : ℕ) → hex_digit_ascii (n % 10) ≡ digit_of (n % 10)
 glyph_digit n = rw (lt-ltb (n % 10) 10 (omega arith))

@@ -1,16 +1,10 @@
 -- RULES, "The bench program": what putting text into a lent buffer leaves.
-use Rattle.std.specs.Prelude.{ℕ, ◌+◌, ◌/◌, min, ◌≡◌, List, length}
-use Rattle.std.proofs.lemmas.List.Edits.{sets}
+use Rattle.std.specs.Prelude.{ℕ, ◌/◌, min, ◌≡◌, List, length}
 use Rattle.io.specs.Counts.{IsPrefixLen}
 use Rattle.base_bits.specs.Buffer.{filled}
 use Rattle.base_sizes.specs.Sizes.{record_size}
 use Rattle.text_lines.specs.Line.{line_size}
 use Rattle.text_report.specs.Text.{lines_of}
-
--- bytes at a place of the buffer, and the place after them
-pub record Placed (bytes : List ℕ) (at : ℕ) (old new : List ℕ) (next : ℕ) : Type 0 where
-  pub place : next ≡ at + length bytes
-  pub buffer : new ≡ sets old at bytes
 
 -- a line at the start of the buffer, the rest unchanged, and how many bytes it is, all of them within the buffer
 pub record Printed (line old new : List ℕ) (count : ℕ) : Type 0 where

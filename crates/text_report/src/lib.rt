@@ -2,10 +2,11 @@
 #![tactic(auto)]
 
 ghost use Rattle.std.specs.Prelude.{◌≡◌, ◌++◌, ◌+◌, ◌≤◌, length};
+ghost use Rattle.base_bits.specs.Buffer.{Put};
 ghost use Rattle.text_lines.specs.Text.{bytes_of};
 ghost use Rattle.text_report.specs.Numbers.{decimal_of};
 ghost use Rattle.text_report.specs.Text.{map_line, counts_line, refused_line};
-ghost use Rattle.text_report.specs.Put.{Placed, Printed, LinesPut};
+ghost use Rattle.text_report.specs.Put.{Printed, LinesPut};
 
 use base_sizes::RECORD;
 use std::cmp::min;
@@ -38,7 +39,7 @@ impl<'a> Text<'a> {
     fn put(&mut self, bytes: &[u8])
         requires { self.old.at + length bytes.now ≤ length self.old.out.now }
         ensures same { self.new.out.ghost_name ≡ self.old.out.ghost_name }
-        ensures placed { Placed bytes.now self.old.at self.old.out.now self.new.out.now self.new.at }
+        ensures put { Put self.old.out.now self.old.at bytes.now self.new.at self.new.out.now }
     {
         let end = self.at + bytes.len();
         self.out[self.at..end].copy_from_slice(bytes);
@@ -49,7 +50,7 @@ impl<'a> Text<'a> {
     fn put_number(&mut self, word: &[u8], n: u64)
         requires { self.old.at + length word.now + 20 ≤ length self.old.out.now }
         ensures same { self.new.out.ghost_name ≡ self.old.out.ghost_name }
-        ensures placed { Placed (word.now ++ decimal_of n) self.old.at self.old.out.now self.new.out.now self.new.at }
+        ensures put { Put self.old.out.now self.old.at (word.now ++ decimal_of n) self.new.at self.new.out.now }
     {
         let mut digits = [0u8; 20];
         let k = io::decimal(n, &mut digits);

@@ -4,10 +4,10 @@ use Rattle.text_report.proofs.Laws.{number_put, line_ended}
 use Rattle.text_report.proofs.put_line.Goals as goal
 
 pub put-requires : goal.put-requires
-put-requires c = omega (arith, number_put c.args.word.now c.args.n c.put_number.ensures.placed)
+put-requires c = omega (arith, number_put c.args.word.now c.args.n c.put_number.ensures.put)
 
 pub returns : goal.returns
 returns c =
-    let number = c.put_number.ensures.placed in
-    let end = c.put.ensures.placed in
-    line_ended (omega (arith, number_put c.args.word.now c.args.n number, end.place)) number end
+    let number = c.put_number.ensures.put in
+    let end = c.put.ensures.put in
+    line_ended (omega (arith, number_put c.args.word.now c.args.n number, end.next_place)) number end

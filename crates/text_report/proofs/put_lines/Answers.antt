@@ -10,7 +10,7 @@ use Rattle.base_bits.proofs.Buffer.{from_on}
 use Rattle.base_sizes.specs.Sizes.{record_size}
 use Rattle.text_lines.specs.Line.{line_of, line_size}
 use Rattle.text_lines.proofs.Laws.{line_length}
-use Rattle.text_report.proofs.Laws.{placed_part, turned, ended}
+use Rattle.text_report.proofs.Laws.{put_part, turned, ended}
 use Rattle.text_report.proofs.put_lines.Goals as goal
 
 -- the standard library's word for the smaller of two numbers
@@ -24,7 +24,7 @@ loop-n-preserved c =
     let line = c.line_of-line.ensures ∙ ap line_of (from_on c.args.records.now _) in
     let lines = c.min-lines.ensures ∙ smaller (length c.args.records.now / record_size) (length c.args.out.now / line_size) in
     let part =
-    placed_part (line_of rest) l.out c.copy_from_slice.new.self (l.n * line_size) ((l.n + 1) * line_size - l.n * line_size)
+    put_part (line_of rest) l.out c.copy_from_slice.new.self (l.n * line_size) ((l.n + 1) * line_size - l.n * line_size)
     (c.copy_from_slice.ensures.after ∙ line) (omega (arith, line_length rest)) (omega (arith, line_length rest, lines, l.invariant.same)) in
     rw part (turned l.invariant c.loop-n-test.true)
 

@@ -7,7 +7,8 @@ use lib.ListN.{length, take}
 use lib.Seq.{length-sets}
 use Rattle.io.specs.Counts.{IsPrefixLen}
 use Rattle.io.specs.Digits.{IsDigitCount}
-use Rattle.text_report.proofs.Laws.{at_most_20, decimal_digits, placed_next}
+use Rattle.text_report.proofs.Laws.{at_most_20, decimal_digits}
+use Rattle.base_bits.proofs.Putting.{put_both}
 use borrow.Author.Rules.{rules}
 use Rattle.text_report.proofs.Text.put_number.Goals as goal
 
@@ -18,16 +19,16 @@ few n k out below count fits = omega (arith, at_most_20 k n below count, fits.1)
 pub put-requires-2 : goal.put-requires-2
 put-requires-2 c =
     let d = c.decimal-k in
-    let word = c.put.ensures.placed in
+    let word = c.put.ensures.put in
     omega (
       arith,
       few c.args.n d.result d.new.out (search rules) d.ensures.len d.ensures.in_bounds,
-      word.place,
+      word.next_place,
       ap length word.buffer ∙ length-sets c.args.self.now.out.now c.args.self.now.at c.args.word.now,
     )
 
-pub returns-clause-placed : goal.returns-clause-placed
-returns-clause-placed c =
+pub returns-clause-put : goal.returns-clause-put
+returns-clause-put c =
     let d = c.decimal-k in
     let right = decimal_digits d.result c.args.n (search rules) d.ensures.len in
-    placed_next c.put.ensures.placed (rw (d.ensures.digits ∙ right) at c.put-2.ensures.placed)
+    put_both c.put.ensures.put (rw (d.ensures.digits ∙ right) at c.put-2.ensures.put)
