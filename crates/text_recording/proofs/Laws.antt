@@ -22,28 +22,32 @@ use Rattle.read_run.proofs.Bound.{piece_bound}
 use Rattle.read_refusals.specs.Numbers.{open_number, words_fit, read_number}
 use Rattle.read_refusals.proofs.Laws.{open_number_most, read_number_most, read_tests}
 use Rattle.read_calls.specs.Calls.{Opening, opening, open_of, Outcome, outcome, read_of}
+use Rattle.std.specs.Prelude.{Result, Ok, Err, MatchResult, is_ok}
+use Rattle.std.specs.declared.io.Error.{Error}
 use Rattle.text_recording.specs.declared.Family.{Family}
 use Rattle.text_recording.specs.declared.Family.TheVariants.{Newer, Older}
 use Rattle.text_recording.specs.declared.tally.Tally.{Tally}
-use Rattle.text_recording.specs.declared.input.Filled.{Filled}
-use Rattle.text_recording.specs.declared.input.Filled.TheVariants.{Bytes, Failed}
-use Rattle.text_recording.specs.Sizes.{least_length, most_length, map_space, piece, record_space, text_space}
+use Rattle.text_recording.specs.Sizes.{least_length, most_length, map_space, piece, record_space}
 use Rattle.text_recording.specs.Bounds.{FilledWithin, map_end}
 use Rattle.text_recording.specs.Families.{chip_of}
 use Rattle.text_recording.specs.Tally.{nothing_read, counted_of}
-
--- the bytes that came
-pub within_bytes : {f : Filled} {got most : ℕ} → f ≡ Bytes got → FilledWithin f most → got ≤ most
-within_bytes e w = rw e at w
 
 -- a part of a buffer that holds no more
 pub few_taken : {got most : ℕ} (l : List ℕ) → got ≤ length l → got ≤ most → length (take got l) ≤ most
 few_taken {got} l h few = rw (length-take-le got l h) few
 
+-- the bytes that came, where a failure is told in words of its own
+pub got_within : {E : Type 0} (Q : Error → Type 0) (filled : Result ℕ Error) {told : Result ℕ E} {got most : ℕ}
+    → MatchResult filled (λ n. told ≡ Ok n) Q → is_ok told ≡ is_ok filled → told ≡ Ok got → FilledWithin filled most → got ≤ most
+got_within Q (Ok n) {got = got} same variant is within =
+    let bytes : n ≡ got = cc in
+    omega arith
+got_within Q (Err reason) other variant is within = absurd (cc)
+
 -- a larger bound holds too
-pub within_more : (f : Filled) {some most : ℕ} → some ≤ most → FilledWithin f some → FilledWithin f most
-within_more (Bytes got) h w = omega arith
-within_more (Failed reason) h w = tt
+pub within_more : (filled : Result ℕ Error) {some most : ℕ} → some ≤ most → FilledWithin filled some → FilledWithin filled most
+within_more (Ok got) h w = omega arith
+within_more (Err reason) h w = tt
 
 -- a map ends after its length field, and there is room for a byte more
 pub map_end_bounds : (length : ℕ) {end : ℕ} → end ≡ map_end length → (2 ≤ end) × (end < map_space)
@@ -142,11 +146,10 @@ pub words_still : (m words words₀ : List ℕ) → length words ≡ length word
 words_still m words words₀ e f = ap (λ (n : ℕ). eqb n ((count_of m + 63) / 64)) e ∙ f
 
 -- What holds whenever a piece is about to be read: the banks, words and buffers are as long as they were lent, and the counts are in order.
-pub record Reading (active₀ buffer₀ words₀ active buffer words samples records text : List ℕ) (t : Tally) : Type 0 where
+pub record Reading (active₀ buffer₀ words₀ active buffer words samples records : List ℕ) (t : Tally) : Type 0 where
   pub same_active : length active ≡ length active₀
   pub same_buffer : length buffer ≡ length buffer₀
   pub same_words : length words ≡ length words₀
   pub samples_room : length samples ≡ piece
   pub records_room : length records ≡ record_space
-  pub text_room : length text ≡ text_space
   pub counts : Counts t

@@ -1,6 +1,6 @@
--- Looking at samples one by one: what is seen, and how many are good, with what is left, is the whole.
-use mathlib.Core.Path.{◌≡◌, refl, sym, ◌∙◌, ap}
-use mathlib.Core.Bool.{Bool, true, false, ◌||◌}
+-- Looking at samples: what is seen with one more, and how many are good.
+use mathlib.Core.Path.{◌≡◌, refl}
+use mathlib.Core.Bool.{true, false, ◌||◌}
 use mathlib.Core.List.{List, [], ◌∷◌}
 use Prim.Native.Nat.{ℕ, suc, ◌+◌, ◌<◌, ◌≤◌}
 use native.Mathlib.Numerals.{add-one}
@@ -8,7 +8,11 @@ use native.Mathlib.Omega.{arith}
 use lib.ListN.{length, get_or, drop, drop_of_length-le}
 use lib.Seq.{drop-cons}
 use lib.Dec.{leb}
-use borrow.Author.Tests.{le-leb, lt-leb}
+use Rattle.std.specs.List.{position_or_len}
+use Rattle.std.specs.Prelude.{nat_lt, cond, not, position, unwrap_or}
+use Rattle.std.proofs.lemmas.List.Sums.{prefix_len-le-length}
+use Rattle.std.proofs.lemmas.List.Recursion.{is_position_or_len}
+use Rattle.std.proofs.lemmas.Bool.Decides.{nat_tests}
 use Rattle.base_bits.proofs.Cases.{each}
 use Rattle.text_recording.specs.declared.glance.Seen.{Seen}
 use Rattle.text_recording.specs.Glance.{seen, falls_at, rises_at, seen_of, good_before}
@@ -19,51 +23,29 @@ unfolding seen_of
 rose_stays s [] h = refl
 rose_stays s (x ∷ xs) h = rw h
 
--- a look that begins without such an edge
-pub unrisen : (s : Seen) → s.rose ≡ false → seen s.last s.fell false ≡ s
-unrisen s h = ap (λ (r : Bool). seen s.last s.fell r) (sym h)
+-- one more sample, where there has been none yet
+pub look_more : (s : Seen) (xs : List ℕ) (i : ℕ) → i < length xs → s.rose ≡ false
+    → seen_of (seen (get_or xs i 0) (s.fell || falls_at s.last (get_or xs i 0)) (rises_at s.last (get_or xs i 0))) (drop (i + 1) xs)
+    ≡ seen_of s (drop i xs)
+unfolding seen_of
+look_more s xs i h unrisen = rw (add-one, drop-cons xs i 0 h, unrisen)
 
-module _ (xs : List ℕ) (last i : ℕ) (fell : Bool) {whole : Seen} (e : seen_of (seen last fell false) (drop i xs) ≡ whole) where
-  -- the next sample brings the edge
-  pub look_found : i < length xs → rises_at last (get_or xs i 0) ≡ true → seen (get_or xs i 0) (fell || falls_at last (get_or xs i 0)) true ≡ whole
-  unfolding seen_of
-  look_found h rises =
-      sym (rose_stays (seen (get_or xs i 0) (fell || falls_at last (get_or xs i 0)) true) (drop (suc i) xs) refl)
-      ∙ (rw rises at (rw (drop-cons xs i 0 h) at e))
+-- there is no more
+pub look_all : (s : Seen) (xs : List ℕ) (i : ℕ) → length xs ≤ i → s ≡ seen_of s (drop i xs)
+unfolding seen_of
+look_all s xs i h = rw (drop_of_length-le xs h)
 
-  -- the next sample doesn't
-  pub look_more : i < length xs → rises_at last (get_or xs i 0) ≡ false
-      → seen_of (seen (get_or xs i 0) (fell || falls_at last (get_or xs i 0)) false) (drop (i + 1) xs) ≡ whole
-  unfolding seen_of
-  look_more h rises = rw add-one (rw rises at (rw (drop-cons xs i 0 h) at e))
+-- as many are good as come before the first that is bad
+good_more : (x : ℕ) (xs : List ℕ) → good_before (x ∷ xs) ≡ cond (nat_lt 15 x) 0 (1 + good_before xs)
+unfolding good_before
+good_more x xs = grind (arith, nat_tests)
 
-  -- there is no next sample
-  pub look_all : length xs ≤ i → seen last fell false ≡ whole
-  unfolding seen_of
-  look_all h = rw (drop_of_length-le xs h) at e
+first_good : (xs : List ℕ) → good_before xs ≡ position_or_len (λ (x : ℕ). nat_lt 15 x) xs
+unfolding good_before
+first_good = is_position_or_len good_before (λ (x : ℕ). nat_lt 15 x) refl good_more
 
-module _ (xs : List ℕ) (i : ℕ) {whole : ℕ} (e : i + good_before (drop i xs) ≡ whole) where
-  -- the next sample is good
-  pub good_more : i < length xs → get_or xs i 0 ≤ 15 → i + 1 + good_before (drop (i + 1) xs) ≡ whole
-  unfolding good_before
-  good_more h few =
-      let next : good_before (drop (i + 1) xs) ≡ good_before (drop (suc i) xs) = rw add-one in
-      let counted = rw (le-leb (get_or xs i 0) 15 few) at (rw (drop-cons xs i 0 h) at e) in
-      omega arith
-
-  -- the next sample is bad
-  pub good_stop : i < length xs → 15 < get_or xs i 0 → i ≡ whole
-  unfolding good_before
-  good_stop h many =
-      let counted = rw (lt-leb (get_or xs i 0) 15 many) at (rw (drop-cons xs i 0 h) at e) in
-      omega arith
-
-  -- there is no next sample
-  pub good_all : length xs ≤ i → i ≡ whole
-  unfolding good_before
-  good_all h =
-      let counted = rw (drop_of_length-le xs h) at e in
-      omega arith
+pub before_bad : (xs : List ℕ) → unwrap_or (position (λ (x : ℕ). nat_lt 15 x) xs) (length xs) ≡ good_before xs
+before_bad xs = grind (arith, nat_tests, first_good xs, prefix_len-le-length (λ (x : ℕ). not (nat_lt 15 x)) xs)
 
 -- no more samples are good than there are
 good_before_most : (xs : List ℕ) → good_before xs ≤ length xs
@@ -72,5 +54,5 @@ good_before_most [] = omega arith
 good_before_most (x ∷ xs) =
     each (λ (n : ℕ). n ≤ suc (length xs)) (leb x 15) (λ t. omega (arith, good_before_most xs)) (λ t. omega arith)
 
-pub good_within : {n most : ℕ} (xs : List ℕ) → n ≡ good_before xs → length xs ≤ most → n ≤ most
-good_within xs e few = omega (arith, good_before_most xs)
+pub good_within : {n : ℕ} (xs : List ℕ) → n ≡ good_before xs → n ≤ length xs
+good_within xs e = omega (arith, good_before_most xs)

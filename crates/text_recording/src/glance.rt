@@ -1,6 +1,6 @@
 // What is looked for in the samples beside the reader, for words to the person at the bench.
-ghost use Rattle.std.specs.Prelude.{◌≡◌};
-ghost use Rattle.text_recording.specs.Glance.{falls_at, rises_at, nothing_seen, seen_of, good_before};
+ghost use Rattle.std.specs.Prelude.{◌≡◌, position, nat_lt};
+ghost use Rattle.text_recording.specs.Glance.{falls_at, rises_at, seen_of, good_before};
 
 use base_bits::bit_at;
 use bus_session::{CSB, SCLK};
@@ -14,14 +14,19 @@ pub struct Seen {
     pub rose: bool,
 }
 
-// Before the first sample the levels are those of the opened session: CSB high and SCLK low.
-pub fn nothing_seen() -> Seen
-    ensures { result ≡ nothing_seen }
-{
-    Seen {
-        last: 1,
-        fell: false,
-        rose: false,
+impl Default for Seen {
+    ghost use Rattle.std.specs.Prelude.{◌≡◌};
+    ghost use Rattle.text_recording.specs.Glance.{nothing_seen};
+
+    ghost is_default = { λ s. s ≡ nothing_seen };
+
+    // Before the first sample the levels are those of the opened session: CSB high and SCLK low.
+    fn default() -> Seen {
+        Seen {
+            last: 1,
+            fell: false,
+            rose: false,
+        }
     }
 }
 
@@ -43,42 +48,30 @@ fn rises(last: u8, x: u8) -> bool
 pub fn look(seen: Seen, samples: &[u8]) -> Seen
     ensures { result ≡ seen_of seen samples.now }
 {
-    if seen.rose {
-        return seen;
-    }
-    let mut last = seen.last;
-    let mut fell = seen.fell;
-    let mut i: usize = 0;
-    while i < samples.len() {
-        let x = samples[i];
-        fell = fell | falls(last, x);
-        if rises(last, x) {
-            return Seen {
-                last: x,
-                fell: fell,
-                rose: true,
-            };
+    let mut seen = seen;
+    for x in samples {
+        if seen.rose {
+            return seen;
         }
-        last = x;
-        i += 1;
+        seen = Seen {
+            last: *x,
+            fell: seen.fell | falls(seen.last, *x),
+            rose: rises(seen.last, *x),
+        };
     }
-    Seen {
-        last: last,
-        fell: fell,
-        rose: false,
-    }
+    seen
 }
 
-// How many samples come before the first that has any of bits 4 to 7.
+// The first sample that has any of bits 4 to 7.
+fn first_bad(samples: &[u8]) -> Option<usize>
+    ensures { result ≡ position (λ x. nat_lt 15 x) samples.now }
+{
+    samples.iter().position(|x| *x > 15)
+}
+
+// How many samples come before it, or how many there are.
 pub fn good_before(samples: &[u8]) -> usize
     ensures { result ≡ good_before samples.now }
 {
-    let mut i: usize = 0;
-    while i < samples.len() {
-        if 15 < samples[i] {
-            return i;
-        }
-        i += 1;
-    }
-    i
+    first_bad(samples).unwrap_or(samples.len())
 }

@@ -8,11 +8,13 @@
 // The buffers, with those of the calls, are at most 65,473 bytes together.
 #![tactic(auto)]
 
-ghost use Rattle.std.specs.Prelude.{◌≡◌, true, ◌<◌, ◌≤◌, ◌+◌, ◌-◌, ◌/◌, min, length};
+ghost use Rattle.std.specs.Prelude.{◌≡◌, true, ◌≤◌, ◌+◌, ◌-◌, ◌/◌, min, length};
+ghost use Rattle.base_numbers.specs.Numbers.{refusal_number};
 ghost use Rattle.map_format.specs.Format.{count_of, most_count};
 ghost use Rattle.map_test.specs.MapTest.{map_number, top_fits};
 ghost use Rattle.read_refusals.specs.Numbers.{words_fit};
-ghost use Rattle.text_recording.specs.Ends.{Known};
+ghost use Rattle.text_recording.specs.Ends.{Known, Known-prop};
+ghost use Rattle.text_recording.specs.Tally.{nothing_read};
 ghost use Rattle.text_recording.specs.Families.{chip_of};
 
 mod glance;
@@ -21,15 +23,18 @@ mod output;
 mod tally;
 
 use base_chip::{Chip, Part};
+use base_numbers::Refusal;
 use base_sizes::RECORD;
 use bus_session::Session;
-pub use input::{Filled, MAP_SPACE, read_map};
+use bus_soundness::opened;
+pub use input::{MAP_SPACE, read_map};
 use map_format::MOST_COUNT;
 use output::TEXT_SPACE;
 use read_calls::read_tested;
+use std::cmp::min;
 use std::io::{Error, ErrorKind, Read, Write};
 use tally::Tally;
-use text_lines::PAIRS;
+use text_lines::Pairs;
 
 // The samples of a piece.
 const PIECE: usize = 4096;
@@ -40,19 +45,18 @@ const RECORD_SPACE: usize = 9562;
 // The words of touched registers of the largest map.
 const MOST_WORDS: usize = 128;
 
-// What a recording is of: a newer chip, or an older part, whose highest address its map tells.
+// What a recording is of: a newer chip, or an older part, whose highest address its map tells. This is no Option: no part is missing.
 #[derive(Clone, Copy)]
 pub enum Family {
     Newer,
     Older(Part),
 }
 
-// How a reading ends: at the last sample, by a refusal with its number, or by a file that failed, with the reason. A call of the
+// Why a reading ended before its last sample: by a refusal of the reader's, or by a file that failed, with the reason. A call of the
 // system's that failed has left that in errno too.
 #[derive(Clone, Copy)]
-pub enum End {
-    Done,
-    Refused(u8),
+pub enum Failure {
+    Refused(Refusal),
     MapFailed(Error),
     SamplesFailed(Error),
     OutputFailed(Error),
@@ -62,19 +66,21 @@ pub enum End {
 // number of the first bad one, counted from 0; and whether the select fell and a clock edge came with the select low.
 #[derive(Clone, Copy)]
 pub struct Reading {
-    pub end: End,
+    pub end: Result<(), Failure>,
     pub records: u64,
     pub samples: u64,
     pub fell: bool,
     pub rose: bool,
+    pub ghost known: { Known end } by { Known-prop end },
 }
 
 // A reading that ended after so much of the recording.
-fn ended(end: End, tally: Tally) -> Reading
+fn ended(end: Result<(), Failure>, tally: Tally) -> Reading
+    requires { Known end }
     ensures { result.end ≡ end }
 {
     Reading {
-        end: end,
+        end,
         records: tally.records,
         samples: tally.samples,
         fell: tally.seen.fell,
@@ -82,32 +88,13 @@ fn ended(end: End, tally: Tally) -> Reading
     }
 }
 
-// A reading that ended before its first sample.
-fn unread(end: End) -> Reading
-    ensures { result.end ≡ end }
-{
-    ended(end, tally::nothing_read())
-}
-
 // The end of a reading that is refused, once the line of it is written.
-fn refuse<W: Write>(to: &mut W, number: u8) -> End
-    requires { (0 < number) × (number ≤ 5) }
+fn refuse<W: Write>(to: &mut W, refusal: Refusal) -> Result<(), Failure>
+    requires { refusal_number refusal ≤ 5 }
     ensures { Known result }
 {
-    match output::write_refused_line(to, number) {
-        Ok(()) => End::Refused(number),
-        Err(reason) => End::OutputFailed(reason),
-    }
-}
-
-// The end of a reading that has come to its last sample, once the line of it is written.
-fn close<W: Write>(chip: Chip, to: &mut W, tally: Tally) -> End
-    ensures { Known result }
-{
-    match output::write_count_line(chip, to, tally) {
-        Ok(()) => End::Done,
-        Err(reason) => End::OutputFailed(reason),
-    }
+    output::write_refused_line(to, refusal).map_err(Failure::OutputFailed)?;
+    Err(Failure::Refused(refusal))
 }
 
 // Reads the samples to their end, 4,096 at a time, on a map that opening has tested. A loop has to end by itself: this one would
@@ -121,37 +108,44 @@ fn read_trace<S: Read, W: Write>(
     words: &mut [u64],
     from: &mut S,
     to: &mut W,
-) -> Reading
-    requires { (map_number chip map.now ≡ 0) × (top_fits chip map.now ≡ true) × (words_fit map.now words.old ≡ true) }
-    ensures { Known result.end }
+    tally: &mut Tally,
+) -> Result<(), Failure>
+    requires map { (map_number chip map.now ≡ 0) × (top_fits chip map.now ≡ true) × (words_fit map.now words.old ≡ true) }
+    requires start { tally.old ≡ nothing_read }
+    ensures { Known result }
 {
     let mut samples = [0u8; PIECE];
     let mut found = [0u8; RECORD_SPACE];
     let mut text = [0u8; TEXT_SPACE];
-    let mut pairs = [0u16; PAIRS];
-    text_lines::fill_pairs(&mut pairs);
-    let mut tally = tally::nothing_read();
+    let pairs = Pairs::new();
     while tally.samples < u64::MAX - PIECE as u64 {
-        let got = match input::fill(from, &mut samples, 0, PIECE) {
-            Filled::Bytes(got) => got,
-            Filled::Failed(reason) => return ended(End::SamplesFailed(reason), tally),
-        };
+        let got = input::fill(from, &mut samples, 0, PIECE).map_err(Failure::SamplesFailed)?;
         let piece = &samples[..got];
-        let answer = read_tested(chip, map, session, active, buffer, words, piece, &mut found);
-        if answer.number != 0 {
-            return ended(refuse(to, answer.number), tally::up_to_bad(tally, piece));
-        }
-        let size = RECORD * answer.count;
-        if let Err(reason) = output::write_lines(to, &found, size, &pairs, &mut text) {
-            return ended(End::OutputFailed(reason), tally);
-        }
-        tally = tally::counted(tally, piece, &found[..size]);
+        let outcome = read_tested(
+            chip,
+            map,
+            &mut session,
+            active,
+            buffer,
+            words,
+            piece,
+            &mut found,
+        );
+        let count = match outcome {
+            Ok(count) => count,
+            Err(refusal) => {
+                tally.count_good(piece);
+                return refuse(to, refusal);
+            }
+        };
+        let records = &found[..RECORD * count];
+        output::write_lines(to, records, &pairs, &mut text).map_err(Failure::OutputFailed)?;
+        tally.count(piece, records);
         if got < PIECE {
-            return ended(close(chip, to, tally), tally);
+            return output::write_count_line(chip, to, *tally).map_err(Failure::OutputFailed);
         }
-        session = answer.session;
     }
-    ended(End::SamplesFailed(too_many_samples()), tally)
+    Err(Failure::SamplesFailed(too_many_samples()))
 }
 
 // Why a recording of 2 ^ 64 samples or so is not read to its end.
@@ -163,11 +157,7 @@ fn too_many_samples() -> Error {
 fn last_address(map: &[u8]) -> u64
     ensures { result ≡ count_of map.now - 1 }
 {
-    let n = map_format::count(map);
-    if n == 0 {
-        return 0;
-    }
-    n as u64 - 1
+    map_format::count(map).saturating_sub(1) as u64
 }
 
 // The chip that a map is for.
@@ -177,7 +167,7 @@ fn chip_of(family: Family, map: &[u8]) -> Chip
     match family {
         Family::Newer => Chip::Newer,
         Family::Older(part) => Chip::Older {
-            part: part,
+            part,
             top: last_address(map),
         },
     }
@@ -192,65 +182,45 @@ fn read_opened<S: Read, W: Write>(
     words: &mut [u64],
     from: &mut S,
     to: &mut W,
-) -> Reading
-    requires { length words.old ≡ (min (count_of map.now) most_count + 63) / 64 }
-    ensures { Known result.end }
+    tally: &mut Tally,
+) -> Result<(), Failure>
+    requires words { length words.old ≡ (min (count_of map.now) most_count + 63) / 64 }
+    requires start { tally.old ≡ nothing_read }
+    ensures { Known result }
 {
     let chip = chip_of(family, map);
-    let opened = read_calls::open_on(chip, map, active, buffer);
-    let refused = opened.number;
-    let refuses = refused != 0;
-    if refuses {
-        return unread(refuse(to, refused));
+    let mut session = opened();
+    if let Err(refusal) = read_calls::open_on(chip, map, &mut session, active, buffer) {
+        return refuse(to, refusal);
     }
-    if let Err(reason) = output::write_map_line(to, map_format::count(map)) {
-        return unread(End::OutputFailed(reason));
-    }
-    read_trace(chip, map, opened.session, active, buffer, words, from, to)
+    output::write_map_line(to, map_format::count(map)).map_err(Failure::OutputFailed)?;
+    read_trace(chip, map, session, active, buffer, words, from, to, tally)
 }
 
-// How many bytes of the banks a map takes. No map that can be opened has more than 8,192 registers.
-fn bank_size(map: &[u8]) -> usize
-    ensures { result ≡ min (count_of map.now) most_count }
-{
-    let count = map_format::count(map);
-    if count <= MOST_COUNT {
-        count
-    } else {
-        MOST_COUNT
-    }
-}
-
-// How many words the touched registers of so many registers take.
-fn word_count(count: usize) -> usize
-    requires { count ≤ most_count }
-    ensures { result ≡ (count + 63) / 64 }
-{
-    (count + 63) / 64
-}
-
-// Reads the samples of a recording whose map has been read, and writes its text.
+// Reads the samples of a recording whose map has been read, and writes its text. No map that can be opened has more than 8,192 registers,
+// so there are no banks of more.
 pub fn read_samples<S: Read, W: Write>(
     family: Family,
     map: &[u8],
     samples_file: &mut S,
     to: &mut W,
-) -> Reading
-    ensures { Known result.end }
-{
+) -> Reading {
     let mut active = [0u8; MOST_COUNT];
     let mut buffer = [0u8; MOST_COUNT];
     let mut words = [0u64; MOST_WORDS];
-    let n = bank_size(map);
-    read_opened(
+    let n = min(map_format::count(map), MOST_COUNT);
+    let mut tally = Tally::nothing_read();
+    let end = read_opened(
         family,
         map,
         &mut active[..n],
         &mut buffer[..n],
-        &mut words[..word_count(n)],
+        &mut words[..n.div_ceil(64)],
         samples_file,
         to,
-    )
+        &mut tally,
+    );
+    ended(end, tally)
 }
 
 // Reads the recording in two files, the map's own and the samples', or in one that holds the samples after the map and is then given
@@ -261,13 +231,11 @@ fn read_files<M: Read, S: Read, W: Write>(
     own: bool,
     samples_file: &mut S,
     to: &mut W,
-) -> Reading
-    ensures { Known result.end }
-{
+) -> Reading {
     let mut map = [0u8; MAP_SPACE];
     match input::read_map(map_file, own, &mut map) {
-        Filled::Bytes(length) => read_samples(family, &map[..length], samples_file, to),
-        Filled::Failed(reason) => unread(End::MapFailed(reason)),
+        Ok(length) => read_samples(family, &map[..length], samples_file, to),
+        Err(reason) => ended(Err(Failure::MapFailed(reason)), Tally::nothing_read()),
     }
 }
 
@@ -277,9 +245,7 @@ pub fn read_recording<M: Read, S: Read, W: Write>(
     own: bool,
     samples_file: &mut S,
     to: &mut W,
-) -> Reading
-    ensures { Known result.end }
-{
+) -> Reading {
     read_files(Family::Newer, map_file, own, samples_file, to)
 }
 
@@ -290,8 +256,6 @@ pub fn read_older_recording<M: Read, S: Read, W: Write>(
     own: bool,
     samples_file: &mut S,
     to: &mut W,
-) -> Reading
-    ensures { Known result.end }
-{
+) -> Reading {
     read_files(Family::Older(part), map_file, own, samples_file, to)
 }

@@ -5,36 +5,33 @@
 #![tactic(auto)]
 
 ghost use Rattle.std.specs.Prelude.{◌≡◌, ◌≤◌};
-ghost use Rattle.text_recording.specs.Ends.{Known, Told, code_of, number_of};
+ghost use Rattle.text_recording.specs.Ends.{Told, code_of, number_of};
 ghost use Rattle.text_recording.specs.Sizes.{map_space};
 
 use base_chip::Part;
 use std::rt::{Stdin, Stdout};
-use text_recording::{End, Family, Filled, MAP_SPACE, Reading, read_map, read_samples};
+use text_recording::{Failure, Family, MAP_SPACE, Reading, read_map, read_samples};
 
 // How a reading ended, as a host is told.
-fn code_of(end: End) -> u32
+fn code_of(end: Result<(), Failure>) -> u32
     ensures { result ≡ code_of end }
 {
     match end {
-        End::Done => 0,
-        End::Refused(_) => 1,
-        End::MapFailed(_) => 2,
-        End::SamplesFailed(_) => 3,
-        End::OutputFailed(_) => 4,
+        Ok(()) => 0,
+        Err(Failure::Refused(_)) => 1,
+        Err(Failure::MapFailed(_)) => 2,
+        Err(Failure::SamplesFailed(_)) => 3,
+        Err(Failure::OutputFailed(_)) => 4,
     }
 }
 
 // The number of a refusal, else 0.
-fn number_of(end: End) -> u8
+fn number_of(end: Result<(), Failure>) -> u8
     ensures { result ≡ number_of end }
 {
     match end {
-        End::Done => 0,
-        End::Refused(number) => number,
-        End::MapFailed(_) => 0,
-        End::SamplesFailed(_) => 0,
-        End::OutputFailed(_) => 0,
+        Err(Failure::Refused(refusal)) => u8::from(refusal),
+        _ => 0,
     }
 }
 
@@ -46,21 +43,17 @@ fn tell(
     fell: &mut u64,
     rose: &mut u64,
 ) -> u32
-    requires { Known reading.end }
     ensures { Told result number.new }
 {
-    let end = reading.end;
-    *number = number_of(end) as u64;
+    *number = u64::from(number_of(reading.end));
     *samples = reading.samples;
-    *fell = reading.fell as u64;
-    *rose = reading.rose as u64;
-    code_of(end)
+    *fell = u64::from(reading.fell);
+    *rose = u64::from(reading.rose);
+    code_of(reading.end)
 }
 
 // Reads the samples of a recording from standard input and writes its text to standard output.
-fn read_family(family: Family, stdin: Stdin, stdout: Stdout, map: &[u8]) -> Reading
-    ensures { Known result.end }
-{
+fn read_family(family: Family, stdin: Stdin, stdout: Stdout, map: &[u8]) -> Reading {
     let mut samples_file = stdin;
     let mut to = stdout;
     read_samples(family, map, &mut samples_file, &mut to)
@@ -79,13 +72,13 @@ pub extern "C" fn couplingnut_read_map(
 {
     let mut file = stdin;
     match read_map(&mut file, own, map) {
-        Filled::Bytes(length) => {
+        Ok(length) => {
             *size = length as u64;
-            code_of(End::Done)
+            code_of(Ok(()))
         }
-        Filled::Failed(reason) => {
+        Err(reason) => {
             *size = 0;
-            code_of(End::MapFailed(reason))
+            code_of(Err(Failure::MapFailed(reason)))
         }
     }
 }

@@ -1,13 +1,8 @@
-use Prim.Native.Nat.{◌-◌, ◌≤◌}
+-- What is seen so far, with the samples that are left, comes to the whole.
 use mathlib.Core.Path.{◌≡◌}
-use mathlib.Core.Bool.{false}
-use lib.ListN.{length, drop}
-use Rattle.text_recording.specs.Glance.{seen, seen_of}
+use lib.ListN.{drop}
+use Rattle.text_recording.specs.Glance.{seen_of}
 use Rattle.text_recording.proofs.glance.look.Given as goal
 
-abbrev pub invariant-loop-i : goal.invariant-loop-i
-invariant-loop-i l =
-    (l.i ≤ length l.samples) × (seen_of (seen l.last l.fell false) (drop l.i l.samples) ≡ seen_of (seen l.initial.last l.initial.fell false) l.samples)
-
-abbrev pub decreases-loop-i : goal.decreases-loop-i
-decreases-loop-i l = length l.samples - l.i
+abbrev pub invariant-loop-x : goal.invariant-loop-x
+invariant-loop-x l = seen_of l.seen (drop l.x-index l.samples) ≡ seen_of l.initial.seen l.samples
