@@ -80,6 +80,12 @@ module _ {xs : List ℕ} {line : ℕ} {lsb : Bool} {last : ℕ} {p q : Progress}
       let b : q.bits < last = omega (arith, n, g.standing.few) in
       record { onward = onward_join g.onward (onward_bit q h e k b); standing = standing_bit lsb (bit_at (get_or xs q.at 0) line) g.standing h e b }
 
+  pub took_high : get_or xs q.at 0 % 2 ≡ 1 → LowScanAfter xs line lsb last p q
+  took_high h = record { onward = g.onward; standing = g.standing; stopped = λ k e. absurd (omega (arith, h, e)) }
+
+  pub took_last : q.bits ≡ last → q.level < get_or xs q.at 0 % 4 → LowScanAfter xs line lsb last p q
+  took_last b h = record { onward = g.onward; standing = g.standing; stopped = λ k e. (b, h) }
+
   pub took_join : {r : Progress} → LowScanAfter xs line lsb last q r → LowScanAfter xs line lsb last p r
   took_join t = record { onward = onward_join g.onward t.onward; standing = t.standing; stopped = t.stopped }
 
