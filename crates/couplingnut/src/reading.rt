@@ -37,7 +37,7 @@ pub extern "C" fn couplingnut_open_ad9557(
 {
     let chip = Chip::Older {
         part: Part::Ad9557,
-        top: top,
+        top,
     };
     open(chip, map, session, active, buffer)
 }
@@ -56,7 +56,7 @@ pub extern "C" fn couplingnut_open_ad9508(
 {
     let chip = Chip::Older {
         part: Part::Ad9508,
-        top: top,
+        top,
     };
     open(chip, map, session, active, buffer)
 }
@@ -112,7 +112,7 @@ pub extern "C" fn couplingnut_read_ad9557(
 {
     let chip = Chip::Older {
         part: Part::Ad9557,
-        top: top,
+        top,
     };
     read(
         chip, map, session, active, buffer, words, samples, records, count,
@@ -139,7 +139,7 @@ pub extern "C" fn couplingnut_read_ad9508(
 {
     let chip = Chip::Older {
         part: Part::Ad9508,
-        top: top,
+        top,
     };
     read(
         chip, map, session, active, buffer, words, samples, records, count,
@@ -202,7 +202,7 @@ pub extern "C" fn couplingnut_next_record_ad9557(
 {
     let chip = Chip::Older {
         part: Part::Ad9557,
-        top: top,
+        top,
     };
     next_record(
         chip, map, session, active, buffer, words, samples, records, count, taken,
@@ -231,7 +231,7 @@ pub extern "C" fn couplingnut_next_record_ad9508(
 {
     let chip = Chip::Older {
         part: Part::Ad9508,
-        top: top,
+        top,
     };
     next_record(
         chip, map, session, active, buffer, words, samples, records, count, taken,

@@ -7,6 +7,7 @@ ghost use Rattle.send_samples.specs.Calls.{sending, send_of};
 ghost use Rattle.send_setup.specs.Calls.{setup_of};
 ghost use Rattle.send_frames.specs.Calls.{making, make_of};
 
+use crate::told;
 use send_frames::fewest_frames;
 use send_samples::{send, send_older};
 use send_setup::send_setup;
@@ -27,8 +28,7 @@ pub extern "C" fn couplingnut_send(
         ≡ send_of Newer (order direction settings start count «data».now) out.old }
 {
     let sent = send(direction, settings, start, count, data, out);
-    *samples = sent.count as u64;
-    sent.number as u32
+    told(sent, samples)
 }
 
 // The same to an older chip whose highest address is top; the samples are the same for either part. A refusal is 12, 7, 8, 9 or 11.
@@ -47,8 +47,7 @@ pub extern "C" fn couplingnut_send_older(
         ≡ send_of (Older part top) (order direction settings start count «data».now) out.old }
 {
     let older = send_older(top, direction, settings, start, count, data, out);
-    *samples = older.count as u64;
-    older.number as u32
+    told(older, samples)
 }
 
 // Puts the samples of all orders of a list at the start of the outgoing buffer, and says how many they are. A refusal, 7 to 11,
@@ -63,8 +62,7 @@ pub extern "C" fn couplingnut_send_setup(
     ensures { sending result samples.new out.new ≡ setup_of settings list.now out.old }
 {
     let setup = send_setup(settings, list, out);
-    *samples = setup.count as u64;
-    setup.number as u32
+    told(setup, samples)
 }
 
 // Puts the fewest streaming write orders that write each listed register once with its byte, and no other, at the start of the
@@ -82,6 +80,5 @@ pub extern "C" fn couplingnut_fewest_frames(
         ≡ make_of (not (eqb ascending 0)) addresses.now bytes.now out.old }
 {
     let frames = fewest_frames(ascending != 0, addresses, bytes, out);
-    *length = frames.length as u64;
-    frames.number as u32
+    told(frames, length)
 }

@@ -1,19 +1,10 @@
 // The call that reads several chips on one wire (document 02, Ask 10), for hosts.
-ghost use Rattle.std.specs.Prelude.{◌≡◌, ◌/◌};
-ghost use Rattle.several_chips.specs.Numbers.{several_record_size};
+ghost use Rattle.std.specs.Prelude.{◌≡◌};
 ghost use Rattle.several_chips.specs.Calls.{several_outcome, several_of};
 
-use several_chips::{Member, RECORD};
-use several_read::step_all;
-use several_refusals::several_refusal;
-
-// The number of a call, and how many records it gave, from their bytes.
-fn told(number: u8, size: usize, count: &mut u64) -> u32
-    ensures { (result ≡ number) × (count.new ≡ size / several_record_size) }
-{
-    *count = (size / RECORD) as u64;
-    number as u32
-}
+use crate::told;
+use several_chips::Member;
+use several_read::read_several;
 
 // Reads the samples of all chips: the chips and the bank memory that they lead to, and how many records they gave, from the record
 // buffer's start. A refusal says 0 records and leaves all as it was.
@@ -29,7 +20,5 @@ pub extern "C" fn couplingnut_read_several(
     ensures { several_outcome result chips.new memory.new count.new records.new
         ≡ several_of map.now chips.old memory.old samples.now records.old }
 {
-    let number = several_refusal(map, chips, memory.len(), samples, records.len());
-    let size = step_all(map, chips, memory, samples, records, number);
-    told(number, size, count)
+    told(read_several(map, chips, memory, samples, records), count)
 }

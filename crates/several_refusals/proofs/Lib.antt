@@ -2,3 +2,5 @@ pub mod Passing
 pub mod Ranges
 pub mod SampleBytes
 pub mod Counting
+pub mod Group
+pub mod Gathered
