@@ -136,6 +136,7 @@ pub fn sample_count(single_instruction: bool, runs: usize, bytes: usize) -> usiz
 }
 
 // Whether an order to a chip with so much room is refused: by the first test that fails.
+#[inline]
 pub fn check(chip: Chip, order: Order, data: &[u8], room: usize) -> Result<(), Refusal>
     ensures { number_of result ≡ send_number chip (with_data order «data».now) room }
 {
