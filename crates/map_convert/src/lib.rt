@@ -40,14 +40,18 @@ fn put_head(wished: u8, n: usize, out: &mut [u8]) -> usize
     size
 }
 
-// Puts the bytes of a map from one place on at a place of the buffer; the place after them.
+// Puts the bytes of a map from one place on at a place of the buffer; the place after them. Byte by byte: copied as a slice of any length
+// they would need memmove, which a host without a C library may not have.
 fn put_rest(map: &[u8], from: usize, out: &mut [u8], at: usize) -> usize
     requires { (from ≤ length map.now) × (at + length (drop from map.now) ≤ length out.old) }
     ensures { Put out.old at (drop from map.now) result out.new }
 {
-    let end = at + (map.len() - from);
-    out[at..end].copy_from_slice(&map[from..]);
-    end
+    let mut n = at;
+    for i in from..map.len() {
+        out[n] = map[i];
+        n += 1;
+    }
+    n
 }
 
 // Puts a map that is not refused, in the wished version; how many bytes it is.
