@@ -54,15 +54,14 @@ fn with_clock(mut member: Member, sclk: bool) -> Member
     member
 }
 
-// The chip with another session and mark.
-fn with_session(member: Member, session: Session, contended: bool) -> Member
+// The chip with another session and mark. Fields are set in the chip that came, so that the bytes between its fields, which C has, stay
+// as they were lent: a new struct would have others there.
+fn with_session(mut member: Member, session: Session, contended: bool) -> Member
     ensures { result ≡ member_with member (state session contended) }
 {
-    Member {
-        session: bytes_of(session),
-        contended: contended as u8,
-        ..member
-    }
+    member.session = bytes_of(session);
+    member.contended = contended as u8;
+    member
 }
 
 // The turn after one: that of the next chip, or at the next sample that of the first.

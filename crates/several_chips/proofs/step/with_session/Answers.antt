@@ -3,4 +3,4 @@ use Rattle.bus_session_bytes.proofs.Laws.{flag_byte}
 use Rattle.several_chips.proofs.step.with_session.Goals as goal
 
 pub returns : goal.returns
-returns c = rw (c.bytes_of.ensures, flag_byte c.args.contended)
+returns c = rw (c.bytes_of-member.ensures, flag_byte c.args.contended)
