@@ -13,7 +13,7 @@ use lib.Seq.{take-suc-set, append_snoc}
 use Rattle.base_bits.proofs.Cases.{yes, no}
 use Rattle.several_chips.specs.declared.Member.{Member}
 use Rattle.several_chips.specs.Numbers.{several_number}
-use Rattle.several_refusals.proofs.Group.{Group, no_group, with_member, gathered, chips_of, group_number}
+use Rattle.several_refusals.specs.Group.{Group, no_group, with_member, gathered, chips_of, group_number}
 
 -- a group that has all chips of a list
 pub record Holds (g : Group) (ws : List Member) : Type 0 where

@@ -2,5 +2,4 @@ pub mod Passing
 pub mod Ranges
 pub mod SampleBytes
 pub mod Counting
-pub mod Group
 pub mod Gathered

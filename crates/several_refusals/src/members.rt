@@ -33,8 +33,8 @@ fn sound_member(member: Member) -> bool
     false
 }
 
-// Whether all chips are sound.
-pub(crate) fn all_sound(members: &[Member]) -> bool
+// Whether all chips are sound. Their sessions hold bytes, sound or not.
+pub fn all_sound(members: &[Member]) -> bool
     ensures sound { result ≡ all_sound members.now }
     ensures bytes { AllBytes members.now }
 {

@@ -14,6 +14,7 @@ use Rattle.base_numbers.proofs.Numbers.{not_done}
 use Rattle.map_test.specs.MapTest.{map_number}
 use Rattle.several_chips.specs.declared.Member.{Member}
 use Rattle.several_chips.specs.Numbers.{ranges_good, ranges_of, all_sound, several_number}
+use Rattle.several_refusals.proofs.Gathered.{gathered_number}
 use Rattle.several_refusals.proofs.check_several.Goals as goal
 
 -- one to eight chips, as code tests it
@@ -121,3 +122,27 @@ returns-clause-number c =
       sym c.if-not-room_suffices.ensures,
     )
     refl
+
+pub returns-then-miscounted-clause-copied : goal.returns-then-miscounted-clause-copied
+returns-then-miscounted-clause-copied c = returns-then-miscounted-clause-number c ∙ sym (gathered_number _ _ _ _ _)
+
+pub returns-then-not-ranges_good-clause-copied : goal.returns-then-not-ranges_good-clause-copied
+returns-then-not-ranges_good-clause-copied c = returns-then-not-ranges_good-clause-number c ∙ sym (gathered_number _ _ _ _ _)
+
+pub returns-then-not-all_sound-clause-copied : goal.returns-then-not-all_sound-clause-copied
+returns-then-not-all_sound-clause-copied c = returns-then-not-all_sound-clause-number c ∙ sym (gathered_number _ _ _ _ _)
+
+pub returns-in_err-check_map-clause-copied : goal.returns-in_err-check_map-clause-copied
+returns-in_err-check_map-clause-copied c = returns-in_err-check_map-clause-number c ∙ sym (gathered_number _ _ _ _ _)
+
+pub returns-then-not-ranges_fit-clause-copied : goal.returns-then-not-ranges_fit-clause-copied
+returns-then-not-ranges_fit-clause-copied c = returns-then-not-ranges_fit-clause-number c ∙ sym (gathered_number _ _ _ _ _)
+
+pub returns-then-not-samples_good-clause-copied : goal.returns-then-not-samples_good-clause-copied
+returns-then-not-samples_good-clause-copied c = returns-then-not-samples_good-clause-number c ∙ sym (gathered_number _ _ _ _ _)
+
+pub returns-then-not-room_suffices-clause-copied : goal.returns-then-not-room_suffices-clause-copied
+returns-then-not-room_suffices-clause-copied c = returns-then-not-room_suffices-clause-number c ∙ sym (gathered_number _ _ _ _ _)
+
+pub returns-clause-copied : goal.returns-clause-copied
+returns-clause-copied c = returns-clause-number c ∙ sym (gathered_number _ _ _ _ _)

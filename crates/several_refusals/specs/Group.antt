@@ -1,5 +1,5 @@
--- Document 02, Ask 10: the chips of a list by value, up to eight, as a host may copy them one by one. No call takes such a copy: the
--- numbers are judged on the list as it is lent. Gathered.antt has that a copy has the list's number.
+-- Document 02, Ask 10, in steps: the chips of a list by value, up to eight, copied one by one. The code judges the list as it is lent, and
+-- promises the number of such a copy too.
 use Rattle.std.specs.Prelude.{ℕ, ◌+◌, cond, List, [], ◌∷◌, ltb, leb, set, take, replicate}
 use Rattle.base_numbers.specs.Numbers.{bad_chips}
 use Rattle.bus_session_bytes.specs.Layout.{session_size}
