@@ -33,8 +33,9 @@ pub fn open_on(
     ensures { opening (number_of result) session.new (banks active.new buffer.new)
         ≡ open_of chip map.now (banks active.old buffer.old) }
 {
+    let tested = check_open(chip, check_map(chip, map), map, active, buffer);
     *session = opened();
-    check_open(chip, check_map(chip, map), map, active, buffer)?;
+    tested?;
     reg_banks::reset(map, active, buffer);
     Ok(())
 }
