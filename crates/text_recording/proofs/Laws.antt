@@ -27,7 +27,7 @@ use Rattle.std.specs.declared.io.Error.{Error}
 use Rattle.text_recording.specs.declared.Family.{Family}
 use Rattle.text_recording.specs.declared.Family.TheVariants.{Newer, Older}
 use Rattle.text_recording.specs.declared.tally.Tally.{Tally}
-use Rattle.text_recording.specs.Sizes.{least_length, most_length, map_space, piece, record_space}
+use Rattle.text_recording.specs.Sizes.{least_length, most_length, map_space, piece, record_space, text_space}
 use Rattle.text_recording.specs.Bounds.{FilledWithin, map_end}
 use Rattle.text_recording.specs.Families.{chip_of}
 use Rattle.text_recording.specs.Tally.{nothing_read, counted_of}
@@ -146,10 +146,11 @@ pub words_still : (m words words₀ : List ℕ) → length words ≡ length word
 words_still m words words₀ e f = ap (λ (n : ℕ). eqb n ((count_of m + 63) / 64)) e ∙ f
 
 -- What holds whenever a piece is about to be read: the banks, words and buffers are as long as they were lent, and the counts are in order.
-pub record Reading (active₀ buffer₀ words₀ active buffer words samples records : List ℕ) (t : Tally) : Type 0 where
+pub record Reading (active₀ buffer₀ words₀ active buffer words samples records text : List ℕ) (t : Tally) : Type 0 where
   pub same_active : length active ≡ length active₀
   pub same_buffer : length buffer ≡ length buffer₀
   pub same_words : length words ≡ length words₀
   pub samples_room : length samples ≡ piece
   pub records_room : length records ≡ record_space
+  pub text_room : length text ≡ text_space
   pub counts : Counts t

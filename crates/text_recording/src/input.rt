@@ -16,7 +16,8 @@ const MOST_LENGTH: usize = MOST_SIZE - LENGTH_SIZE;
 pub const MAP_SPACE: usize = MOST_SIZE + 1;
 
 // Fills a buffer from a file up to an end, in as many portions as it takes; how many bytes it then has, fewer than were asked for where
-// the file has ended.
+// the file has ended. That a full buffer is as long as asked, and not as long as the portions say, is what tells the compiler that a piece
+// has no more than 4,096 samples: it then drops the counting of records, and the loop of the reader stands at one place only.
 pub fn fill<R: Read>(file: &mut R, space: &mut [u8], from: usize, end: usize) -> io::Result<usize>
     requires { (from ≤ end) × (end ≤ length space.old) }
     ensures { FilledWithin result end }
@@ -25,11 +26,11 @@ pub fn fill<R: Read>(file: &mut R, space: &mut [u8], from: usize, end: usize) ->
     while at < end {
         let more = file.read(&mut space[at..end])?;
         if more == 0 {
-            break;
+            return Ok(at);
         }
         at += more;
     }
-    Ok(at)
+    Ok(end)
 }
 
 // Where the map that starts with this length field ends: the field is 3 + 3n, or 4 + 3n in version 2.

@@ -204,7 +204,9 @@ pub fn read_samples<S: Read, W: Write>(
     map: &[u8],
     samples_file: &mut S,
     to: &mut W,
-) -> Reading {
+) -> Reading
+    ensures { Known result.end }
+{
     let mut active = [0u8; MOST_COUNT];
     let mut buffer = [0u8; MOST_COUNT];
     let mut words = [0u64; MOST_WORDS];
@@ -231,7 +233,9 @@ fn read_files<M: Read, S: Read, W: Write>(
     own: bool,
     samples_file: &mut S,
     to: &mut W,
-) -> Reading {
+) -> Reading
+    ensures { Known result.end }
+{
     let mut map = [0u8; MAP_SPACE];
     match input::read_map(map_file, own, &mut map) {
         Ok(length) => read_samples(family, &map[..length], samples_file, to),
@@ -245,7 +249,9 @@ pub fn read_recording<M: Read, S: Read, W: Write>(
     own: bool,
     samples_file: &mut S,
     to: &mut W,
-) -> Reading {
+) -> Reading
+    ensures { Known result.end }
+{
     read_files(Family::Newer, map_file, own, samples_file, to)
 }
 
@@ -256,6 +262,8 @@ pub fn read_older_recording<M: Read, S: Read, W: Write>(
     own: bool,
     samples_file: &mut S,
     to: &mut W,
-) -> Reading {
+) -> Reading
+    ensures { Known result.end }
+{
     read_files(Family::Older(part), map_file, own, samples_file, to)
 }

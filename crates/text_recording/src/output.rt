@@ -1,7 +1,8 @@
 // What goes to a file: the lines of document 01's text. Each call answers whether it went out, or why not.
-ghost use Rattle.std.specs.Prelude.{◌≤◌};
+ghost use Rattle.std.specs.Prelude.{◌≡◌, ◌≤◌, length};
 ghost use Rattle.base_numbers.specs.Numbers.{refusal_number};
 ghost use Rattle.text_report.specs.Put.{Printed};
+ghost use Rattle.text_recording.specs.Sizes.{text_space};
 ghost use Rattle.text_recording.specs.Tally.{last_line};
 
 use crate::tally::Tally;
@@ -13,11 +14,11 @@ use std::io::Write;
 use text_lines::{LINE, Pairs};
 use text_report::LAST_LINE;
 
-// The lines that are written at a time.
-const LINES: usize = 280;
+// The bytes for the lines that are written at a time.
+pub const TEXT_SPACE: usize = 5040;
 
-// The bytes for them.
-pub const TEXT_SPACE: usize = LINE * LINES;
+// How many lines those are.
+const LINES: usize = TEXT_SPACE / LINE;
 
 // Writes the first line.
 pub fn write_map_line<W: Write>(to: &mut W, n: usize) -> io::Result<()> {
@@ -53,15 +54,18 @@ pub fn write_refused_line<W: Write>(to: &mut W, refusal: Refusal) -> io::Result<
     to.write_all(&line[..count])
 }
 
-// Writes the lines of records, as many at a time as the lent text has room for.
+// Writes the lines of records, as many at a time as the lent text has room for: each part is put whole.
 pub fn write_lines<W: Write>(
     to: &mut W,
     records: &[u8],
     pairs: &Pairs,
     text: &mut [u8; TEXT_SPACE],
-) -> io::Result<()> {
+) -> io::Result<()>
+    requires { length text.old ≡ text_space }
+{
     for part in records.chunks(RECORD * LINES) {
         let lines = text_report::put_lines(pairs, part, text);
+        prove!(lines == part.len() / RECORD);
         to.write_all(&text[..LINE * lines])?;
     }
     Ok(())

@@ -5,7 +5,7 @@
 #![tactic(auto)]
 
 ghost use Rattle.std.specs.Prelude.{◌≡◌, ◌≤◌};
-ghost use Rattle.text_recording.specs.Ends.{Told, code_of, number_of};
+ghost use Rattle.text_recording.specs.Ends.{Known, Told, code_of, number_of};
 ghost use Rattle.text_recording.specs.Sizes.{map_space};
 
 use base_chip::Part;
@@ -53,7 +53,9 @@ fn tell(
 }
 
 // Reads the samples of a recording from standard input and writes its text to standard output.
-fn read_family(family: Family, stdin: Stdin, stdout: Stdout, map: &[u8]) -> Reading {
+fn read_family(family: Family, stdin: Stdin, stdout: Stdout, map: &[u8]) -> Reading
+    ensures { Known result.end }
+{
     let mut samples_file = stdin;
     let mut to = stdout;
     read_samples(family, map, &mut samples_file, &mut to)

@@ -4,6 +4,7 @@ use mathlib.Core.Path.{sym, ◌∙◌}
 use Prim.Native.Nat.{◌≤◌}
 use native.Mathlib.Omega.{arith}
 use lib.Seq.{length-take-le}
+use Rattle.std.proofs.Common.{rules}
 use Rattle.text_recording.specs.Sizes.{piece}
 use Rattle.text_recording.proofs.Laws.{got_within, few_taken, records_within, piece_told, words_still, fewer_left, counts_more}
 use Rattle.text_recording.proofs.read_trace.Goals as goal
@@ -35,6 +36,9 @@ slice_bounds-records-end g c =
     let fit = rw c.in-Ok.is at (records_within _ _ _ _ _ c.read_tested-outcome.ensures h.records_room) in
     sym (length-take-le _ _ (omega (arith, fit, c.read_tested-outcome.auto.records, h.records_room)))
 
+pub write_lines-requires : goal.write_lines-requires
+write_lines-requires g c = c.loop-tally.invariant.text_room
+
 pub loop-tally-smaller : goal.loop-tally-smaller
 loop-tally-smaller g c =
     let h = c.loop-tally.invariant in
@@ -55,6 +59,7 @@ loop-tally-preserved g c =
       same_words = kept.words ∙ h.same_words;
       samples_room = c.fill.auto.space ∙ h.samples_room;
       records_room = kept.records ∙ h.records_room;
+      text_room = search rules;
       counts =
           counts_more _ _ (omega (arith, few, c.fill.auto.space, h.samples_room)) h.counts _ fit (omega (arith, fit, kept.records, h.records_room))
           c.count.ensures c.if-got-lt-PIECE.false;
