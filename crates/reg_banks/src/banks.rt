@@ -5,14 +5,15 @@ ghost use Rattle.reg_banks.specs.Banks.{banks, Mapped, defaults_from, default_ba
 
 use map_format::{BUFFERED, entry_at};
 
-// Puts each default in a bank.
+// Puts each default in a bank. Here and in a transfer the loop goes by the place, up to the map's own count, which `entry_at` is given too:
+// the compiler then drops both tests of a place, which a large bank's time goes into.
 pub fn put_defaults(map: &[u8], bank: &mut [u8])
     requires { length bank.old ≡ count_of map.now }
     ensures { bank.new ≡ defaults_from map.now 0 (count_of map.now) }
 {
-    let count = bank.len();
-    for (i, byte) in bank.iter_mut().enumerate() {
-        *byte = entry_at(map, count, i).default;
+    let count = map_format::count(map);
+    for i in 0..count {
+        bank[i] = entry_at(map, count, i).default;
     }
 }
 
@@ -30,10 +31,10 @@ pub fn transfer(map: &[u8], active: &mut [u8], buffer: &[u8])
     requires { Mapped map.now (banks active.old buffer.now) }
     ensures { banks active.new buffer.now ≡ transferred map.now (banks active.old buffer.now) }
 {
-    let count = active.len();
-    for (i, byte) in active.iter_mut().enumerate() {
+    let count = map_format::count(map);
+    for i in 0..count {
         if entry_at(map, count, i).kind == BUFFERED {
-            *byte = buffer[i];
+            active[i] = buffer[i];
         }
     }
 }

@@ -9,11 +9,11 @@ use Rattle.reg_banks.proofs.banks.put_defaults.Goals as goal
 pub loop-i-preserved : goal.loop-i-preserved
 loop-i-preserved c =
     let inv = c.loop-i.invariant in
-    stored (defaults_rule _) inv _ (omega (arith, inv.same, c.loop-i-test.true))
-    (rw (c.entry_at.ensures, c.requires))
+    stored (defaults_rule _) inv _ (omega (arith, inv.same, c.requires, c.count-count.ensures, c.loop-i-test.true))
+    (rw (c.entry_at.ensures, c.count-count.ensures))
 
 pub returns : goal.returns
 returns c =
     let inv = c.loop-i.invariant in
-    ended (defaults_rule _) inv (omega (arith, inv.same, c.loop-i-test.false))
+    ended (defaults_rule _) inv (omega (arith, inv.same, c.requires, c.count-count.ensures, c.loop-i-test.false))
     ∙ ap (defaults_from c.args.map.now 0) c.requires
