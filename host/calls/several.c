@@ -55,6 +55,7 @@ void check_several(void)
     uint8_t samples[100];
     uint8_t wired[200];
     size_t length = wire(samples, two_bytes(samples, sizeof samples), 0xFD, 1, wired);
+    const uint8_t *between = &p.chips[1].contended + 1;
 
     check(sizeof(couplingnut_chip) == 56, "a chip of several has the size that the library goes by");
     open_pair(&p);
@@ -64,6 +65,7 @@ void check_several(void)
           "each begins with its number");
     check(p.memory[34 + 0x0A] == 0x3C && p.memory[0x0A] == 0 && p.memory[32] == PATTERN && p.memory[33] == PATTERN,
           "its register has the byte, and no other chip's; memory that is nobody's stays");
+    check(between[0] == PATTERN && between[1] == PATTERN, "the bytes between a chip's fields stay");
 }
 
 void check_contended(void)
