@@ -49,13 +49,20 @@ static void open_pair(struct pair *p)
     open_chip(p, 1, 34);
 }
 
+/* Whether the two bytes that C has after a chip's mark are as open_pair lent them. */
+static int padding_stays(const couplingnut_chip *chip)
+{
+    const uint8_t *bytes = (const uint8_t *)chip;
+
+    return bytes[COUPLINGNUT_SESSION_SIZE + 1] == PATTERN && bytes[COUPLINGNUT_SESSION_SIZE + 2] == PATTERN;
+}
+
 void check_several(void)
 {
     struct pair p;
     uint8_t samples[100];
     uint8_t wired[200];
     size_t length = wire(samples, two_bytes(samples, sizeof samples), 0xFD, 1, wired);
-    const uint8_t *between = &p.chips[1].contended + 1;
 
     check(sizeof(couplingnut_chip) == 56, "a chip of several has the size that the library goes by");
     open_pair(&p);
@@ -65,7 +72,7 @@ void check_several(void)
           "each begins with its number");
     check(p.memory[34 + 0x0A] == 0x3C && p.memory[0x0A] == 0 && p.memory[32] == PATTERN && p.memory[33] == PATTERN,
           "its register has the byte, and no other chip's; memory that is nobody's stays");
-    check(between[0] == PATTERN && between[1] == PATTERN, "the bytes between a chip's fields stay");
+    check(padding_stays(&p.chips[1]), "the bytes between a chip's fields stay");
 }
 
 void check_contended(void)
